@@ -1,0 +1,4 @@
+pub mod Unseen
+pub mod Steps
+pub mod Ends
+pub mod Places
