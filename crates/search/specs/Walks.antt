@@ -21,15 +21,15 @@ pub data Walk (nbr : ℕ → List ℕ) (s : ℕ) : ℕ → ℕ → Type 0 where
 abbrev pub From : (ℕ → List ℕ) → List ℕ → ℕ → ℕ → Type 0
 From nbr starts v k = (j : ℕ) × (j < length starts) × Walk nbr (getD starts j 0) v k
 
--- a shortest such walk has d arcs
-pub record Shortest (nbr : ℕ → List ℕ) (starts : List ℕ) (v d : ℕ) : Type 0 where
-  pub some : From nbr starts v d
-  pub least : (k : ℕ) → From nbr starts v k → d ≤ k
+-- d is the least number of which P holds
+pub record Least (P : ℕ → Type 0) (d : ℕ) : Type 0 where
+  pub some : P d
+  pub least : (k : ℕ) → P k → d ≤ k
 
--- what x tells of the node v: the number of arcs of a shortest walk, or 65535 if there is none
-pub record Tells (nbr : ℕ → List ℕ) (starts : List ℕ) (v x : ℕ) : Type 0 where
-  pub reached : (d : ℕ) → d < 65535 → (x ≡ d) ↔ Shortest nbr starts v d
-  pub unreached : (x ≡ 65535) ↔ ((k : ℕ) → From nbr starts v k → ⊥)
+-- what x tells of P: the least number of which it holds, or 65535 if it holds of none
+pub record Tells (P : ℕ → Type 0) (x : ℕ) : Type 0 where
+  pub reached : (d : ℕ) → d < 65535 → (x ≡ d) ↔ Least P d
+  pub unreached : (x ≡ 65535) ↔ ((k : ℕ) → P k → ⊥)
 
 -- each start is a node
 abbrev pub Starting : ℕ → List ℕ → Type 0
@@ -41,7 +41,8 @@ pub record Fit (n : ℕ) (starts distance work : List ℕ) : Type 0 where
   pub queue : n ≤ length work
   pub starting : Starting n starts
 
--- the distances after a search, where they were `old` before: each node's is told, and places beyond the nodes are unaltered
+-- the distances after a search, where they were `old` before: at each node the number of arcs of a shortest walk from
+-- a start, or 65535 if there is none; places beyond the nodes are unaltered
 pub record Searched (n : ℕ) (nbr : ℕ → List ℕ) (starts old new : List ℕ) : Type 0 where
-  pub nodes : (v : ℕ) → v < n → Tells nbr starts v (getD new v 0)
+  pub nodes : (v : ℕ) → v < n → Tells (From nbr starts v) (getD new v 0)
   pub beyond : (v : ℕ) → n ≤ v → getD new v 0 ≡ getD old v 0

@@ -4,7 +4,7 @@ ghost use mathlib.Core.Path.{_≡_};
 ghost use Prim.Native.Nat.{ℕ, _+_, _<_, _≤_};
 ghost use lib.ListN.{length, getD};
 ghost use Rattle.std.specs.Orderings.{Decides};
-ghost use Rattle.search.specs.Walks.{Fit, Starting, Tells};
+ghost use Rattle.search.specs.Walks.{Fit, From, Starting, Tells};
 ghost use Rattle.search.specs.Answers.{faultNumber, faultPlace, Answered};
 ghost use Rattle.search.specs.Queue.{Queued, Joined, Begun, Visiting, Visited, at};
 use crate::graph::Graph;
@@ -112,7 +112,7 @@ fn visit<G: Graph>(
 /// Gives each node its distance.
 fn explore<G: Graph>(graph: &G, starts: &[u16], distance: &mut [u16], work: &mut [u16])
     requires { ⌜ nodes (now graph) ≡ length (now distance) ⌝ ∗ ⌜ Fit (length (now distance)) (now starts) (now distance) (now work) ⌝ }
-    ensures { λ _. ⌜ ((v : ℕ) → v < length (now (distance .entry)) → Tells (neighbours (now (graph .entry))) (now (starts .entry)) v (getD (now (distance .exit)) v 0)) ⌝ }
+    ensures { λ _. ⌜ ((v : ℕ) → v < length (now (distance .entry)) → Tells (From (neighbours (now (graph .entry))) (now (starts .entry)) v) (getD (now (distance .exit)) v 0)) ⌝ }
 {
     let mut tail = begin(starts, distance, work);
     let mut head = 0;

@@ -1,0 +1,94 @@
+//! Silent arcs among stages, as a graph.
+
+ghost use mathlib.Core.Path.{_≡_};
+ghost use mathlib.Core.Bool.{Bool, true, false, not, _&&_, _||_};
+ghost use Prim.Native.Nat.{ℕ, _<_};
+ghost use lib.Dec.{eqb, ltb};
+ghost use lib.ListN.{length, getD};
+ghost use Rattle.closure.specs.Silent.{arcIn, withArc, neighboursIn, lawfulIn, FewestArcs};
+ghost use Rattle.std.specs.Results.{Cases};
+ghost use Rattle.search.specs.Walks.{Starting};
+use search::breadth_first::NO_DISTANCE;
+use search::breadth_first::SearchFault;
+use search::breadth_first::search;
+use search::graph::Graph;
+use sets::bit_row::BitRow;
+use sets::bit_row::BitRowSet;
+use sets::small_set::SmallSet;
+
+/// The number of stages: they are numbered from 0 to 255.
+pub const STAGES: u16 = 256;
+
+/// A stage is a state that an order may be in, and a silent arc a step from one to another that nobody is told of.
+/// Row `from` holds every stage that a silent arc from stage `from` leads to.
+#[derive(Clone, Copy)]
+pub struct SilentArcs {
+    rows: [BitRow; 256],
+}
+
+impl SilentArcs {
+    /// No arcs.
+    pub fn new() -> SilentArcs
+        ensures { λ r. ⌜ ((u v : ℕ) → arcIn (r .rows) u v ≡ false) ⌝ }
+    {
+        SilentArcs {
+            rows: [BitRow::empty(); 256],
+        }
+    }
+
+    /// Whether an arc leads from the one stage to the other.
+    pub fn contains(&self, from: u16, to: u16) -> bool
+        ensures { λ r. ⌜ r ≡ arcIn (now (self .entry) .rows) from to ⌝ }
+    {
+        from < 256 && self.rows[from as usize].contains(to)
+    }
+
+    /// Adds an arc if both numbers are stages, else nothing. Answers whether there is one more arc.
+    pub fn insert(&mut self, from: u16, to: u16) -> bool
+        ensures arcs { λ _. ⌜ ((u v : ℕ) → arcIn (now (self .exit) .rows) u v ≡ withArc from to (arcIn (now (self .entry) .rows)) u v) ⌝ }
+        ensures grew { λ r. ⌜ r ≡ ((ltb from 256 && ltb to 256) && not (arcIn (now (self .entry) .rows) from to)) ⌝ }
+    {
+        if from >= 256 {
+            return false;
+        }
+        let mut row = self.rows[from as usize];
+        let grew = row.insert(to);
+        self.rows[from as usize] = row;
+        grew
+    }
+
+    /// The fewest silent arcs from a start to each stage, or `NO_DISTANCE` where no path leads. Declined just if a
+    /// start is no stage.
+    pub fn steps_from(&self, starts: &[u16]) -> Result<[u16; 256], SearchFault>
+        ensures { λ r. ⌜ Cases r (λ steps. Starting 256 (now (starts .entry)) × FewestArcs (arcIn (now (self .entry) .rows)) (now (starts .entry)) steps) (λ _. Starting 256 (now (starts .entry)) → ⊥) ⌝ }
+    {
+        let mut steps = [NO_DISTANCE; 256];
+        let mut queue = [0; 256];
+        search(self, starts, &mut steps, &mut queue)?;
+        Ok(steps)
+    }
+}
+
+pub impl Graph for SilentArcs as SilentArcsGraph {
+    ghost nodes = { λ _. 256 };
+
+    ghost neighbours = { λ g. neighboursIn (g .rows) };
+
+    ghost lawful = { λ g. lawfulIn (g .rows) };
+
+    fn node_count(&self) -> u16 {
+        256
+    }
+
+    // A place without an arc leads back to its own stage, so that every place is read at once: no shortest walk
+    // takes such a turn.
+    fn neighbour(&self, node: u16, place: u16) -> Option<u16> {
+        if place >= 256 {
+            None
+        } else if self.contains(node, place) {
+            Some(place)
+        } else {
+            Some(node)
+        }
+    }
+}
