@@ -15,9 +15,9 @@ use Rattle.std.proofs.shelf.Maps.{nth-getD, nth-past}
 use Rattle.std.proofs.shelf.Tests.{lt-ltb, le-ltb, cases-lt, cases-eq, and-parts, ltb-true}
 use Rattle.std.proofs.shelf.Ways.{tells}
 use Rattle.sets.specs.Members.{withMember}
-use Rattle.sets.specs.BitRows.{inRow}
+use Rattle.sets.specs.FourWords.{inRow}
 use Rattle.sets.specs.declared.bit_row.BitRow.{BitRow}
-use Rattle.sets.proofs.BitRows.{row-below}
+use Rattle.sets.proofs.FourWords.{row-below}
 use Rattle.closure.specs.Silent.{arcIn, withArc, leads, neighboursIn, places, at-place}
 
 -- the row of a stage

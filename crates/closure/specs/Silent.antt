@@ -8,7 +8,7 @@ use lib.Dec.{eqb, ltb}
 use lib.ListN.{length, getD}
 use Rattle.std.specs.Iters.{counting}
 use Rattle.std.proofs.shelf.Counted.{length-map-counting, getD-map-counting}
-use Rattle.sets.specs.BitRows.{inRow}
+use Rattle.sets.specs.FourWords.{inRow}
 use Rattle.sets.specs.declared.bit_row.BitRow.{BitRow}
 use Rattle.search.specs.Walks.{Lawful, Tells}
 

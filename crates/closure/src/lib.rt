@@ -1,3 +1,4 @@
 //! The silent closure of stages: which stages are reached from given ones by silent arcs alone, and by how few.
 
+pub mod line;
 pub mod silent_arcs;

@@ -14,7 +14,7 @@ use Rattle.std.proofs.shelf.Tests.{eq-eqb, ne-eqb, eqb-true, cases-order, cases
 use Rattle.std.proofs.shelf.Ways.{tells}
 use Rattle.std.proofs.shelf.Bits.{pow-below, pow-pos}
 use Rattle.sets.specs.Members.{one, size}
-use Rattle.sets.specs.BitRows.{bit}
+use Rattle.sets.specs.FourWords.{bit}
 
 -- a test of the lowest bit
 abbrev pub odd : ℕ → Bool

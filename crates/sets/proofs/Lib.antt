@@ -1,3 +1,3 @@
 pub mod Bits
-pub mod BitRows
+pub mod FourWords
 pub mod AscendingLists

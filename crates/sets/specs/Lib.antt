@@ -1,3 +1,3 @@
 pub mod Members
-pub mod BitRows
+pub mod FourWords
 pub mod AscendingLists

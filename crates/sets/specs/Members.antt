@@ -1,7 +1,6 @@
 -- Sets of numbers as tests: n is a member of p where p n is true. Assumes nothing.
 use mathlib.Core.Path.{_≡_}
 use mathlib.Core.Bool.{Bool, true, false, _&&_, _||_}
-use mathlib.Core.List.{List, [], _∷_}
 use Prim.Native.Nat.{ℕ, zero, suc, _+_, _<_, _≤_}
 use lib.Dec.{eqb, ltb}
 use Rattle.std.specs.Options.{Cases}
@@ -24,11 +23,6 @@ withMember w n p k = p k || (eqb k n && ltb n w)
 -- p and q have the same members
 abbrev pub SameMembers : (ℕ → Bool) → (ℕ → Bool) → Type 0
 SameMembers p q = (n : ℕ) → p n ≡ q n
-
--- whether n stands in a list
-abbrev pub listed : List ℕ → ℕ → Bool
-listed [] n = false
-listed (x ∷ xs) n = eqb n x || listed xs n
 
 -- r is the least member of p not below from, or absent where there is none
 abbrev pub NextFrom : (ℕ → Bool) → ℕ → Option ℕ → Type 0

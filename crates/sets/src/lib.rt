@@ -5,5 +5,8 @@
 
 mod ascending_list;
 pub mod bit_row;
+mod four_words;
 pub mod list_record;
 pub mod small_set;
+#[cfg(test)]
+mod tests;

@@ -21,7 +21,7 @@ pub struct ListRecord {
 
 impl ListRecord {
     /// The check: whether the first `len` items, at most 64, are below 64 and ascend strictly.
-    pub fn passes_check(&self) -> bool
+    pub(crate) fn passes_check(&self) -> bool
         ensures test { λ r. ⌜ r ≡ passes (now (self .entry) .len) (now (self .entry) .items) ⌝ }
         ensures ascending { λ r. ⌜ Decides r (Ascending (now (self .entry) .len) (now (self .entry) .items)) ⌝ }
     {

@@ -5,7 +5,7 @@ ghost use mathlib.Core.Bool.{Bool, true, false, not, _&&_, _||_};
 ghost use Prim.Native.Nat.{ℕ, _<_, _≤_};
 ghost use lib.Dec.{ltb};
 ghost use Rattle.std.specs.Orderings.{Decides};
-ghost use Rattle.sets.specs.Members.{size, withMember, listed, NextFrom, SameMembers};
+ghost use Rattle.sets.specs.Members.{size, withMember, NextFrom, SameMembers};
 
 /// A kind of set. Every contract gives its answer by `has`, the members; questions take `&self` and alter nothing.
 pub trait SmallSet: Copy {
@@ -22,7 +22,7 @@ pub trait SmallSet: Copy {
 
     law below: { (s : Self) (n : ℕ) → has s n ≡ true → n < W };
 
-    /// Every set of numbers below the width is the meaning of some value. `from_members` makes each of them.
+    /// Every set of numbers below the width is the meaning of some value.
     law every: { (p : ℕ → Bool) → (s : Self) × ((n : ℕ) → n < W → has s n ≡ p n) };
 
     /// The width. Each kind answers its constant `W`.
@@ -57,15 +57,4 @@ pub trait SmallSet: Copy {
     /// The least member not below `from`, if there is one.
     fn next_from(&self, from: u16) -> Option<u16>
         ensures { λ r. ⌜ NextFrom (has (now (self .entry))) from r ⌝ };
-}
-
-/// The set of those numbers of a list that are below the width.
-pub fn from_members<S: SmallSet>(members: &[u16]) -> S
-    ensures { λ r. ⌜ ((n : ℕ) → has r n ≡ (ltb n W && listed (now (members .entry)) n)) ⌝ }
-{
-    let mut set = S::empty();
-    for n in members {
-        set.insert(*n);
-    }
-    set
 }

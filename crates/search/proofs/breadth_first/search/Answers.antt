@@ -11,8 +11,7 @@ returns g c =
     let n = c .node-count-nodes .result in
     let is = c .node-count-nodes .ensures in
     let old = c .args .distance .now in
-    let long : length (take (n - 0) old) ≡ n = omega (arith, length-take (n - 0) old, c .if-count-distance .left) in
-    (
+    let long : length (take (n - 0) old) ≡ n = omega (arith, length-take (n - 0) old, c .if-count-distance .left) in (
       record {
         distances = omega (arith, is, c .if-count-distance .left);
         queue = omega (arith, is, c .if-count-work .left);

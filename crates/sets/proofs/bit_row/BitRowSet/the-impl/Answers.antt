@@ -1,4 +1,4 @@
-use Rattle.sets.proofs.BitRows.{row-below, row-of, rowOf}
+use Rattle.sets.proofs.FourWords.{row-below, row-of, rowOf}
 use Rattle.sets.proofs.bit_row.BitRowSet.the-impl.Needs as need
 
 pub below-law : need.below-law

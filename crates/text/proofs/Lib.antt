@@ -1,0 +1,3 @@
+pub mod First
+pub mod Back
+pub mod Places

@@ -1,0 +1,212 @@
+// The lines and words of a text of bytes, each with its place, and number words.
+ghost use mathlib.Core.Path.{_≡_};
+ghost use mathlib.Core.List.{List, [], _∷_};
+ghost use Prim.Native.Nat.{ℕ, _-_, _<_, _≤_};
+ghost use lib.ListN.{length, drop};
+ghost use Rattle.std.specs.Options.{Cases as BySome};
+ghost use Rattle.text.specs.Split.{partLen, words, lines, told, left, Whole, Placed};
+ghost use Rattle.text.specs.Numbers.{digitOf, numberOf};
+
+mod parts;
+
+pub use parts::Part;
+pub use parts::Parts;
+pub use parts::Place;
+pub use parts::PlaceDebug;
+pub use parts::PlaceEq;
+pub use parts::PlacePartialEq;
+
+// The bytes of a text from an offset on: none if it is past the end.
+fn tail(text: &[u8], offset: usize) -> &[u8]
+    ensures is { λ r. ⌜ now r ≡ drop offset (now (text .entry)) ⌝ }
+    ensures len { λ r. ⌜ length (now r) ≡ length (now (text .entry)) - offset ⌝ }
+{
+    if offset <= text.len() {
+        &text[offset..]
+    } else {
+        &[]
+    }
+}
+
+// How many bytes stand before the first that is `by`.
+fn part_len(bytes: &[u8], by: u8) -> usize
+    ensures is { λ r. ⌜ r ≡ partLen by (now (bytes .entry)) ⌝ }
+    ensures within { λ r. ⌜ r ≤ length (now (bytes .entry)) ⌝ }
+{
+    for (i, b) in bytes.iter().enumerate() {
+        if *b == by {
+            return i;
+        }
+    }
+    bytes.len()
+}
+
+impl<'a> Part<'a> {
+    // The bytes of the part.
+    pub fn text(&self) -> &'a [u8]
+        ensures { λ r. ⌜ now r ≡ told (now (self .entry)) .text ⌝ }
+    {
+        tail(self.upto, self.place.offset)
+    }
+
+    // Where the part begins.
+    pub fn place(&self) -> Place
+        ensures { λ r. ⌜ r ≡ told (now (self .entry)) .place ⌝ }
+    {
+        self.place
+    }
+}
+
+impl<'a> Parts<'a> {
+    // The lines of a text: the parts between bytes 10. After a last byte 10 there is one more line,
+    // which is empty.
+    pub fn lines(text: &'a [u8]) -> Parts<'a>
+        ensures is { λ r. ⌜ left r ≡ lines (now (text .entry)) ⌝ }
+        ensures whole { λ r. ⌜ Whole 10 (now (text .entry)) (left r) ⌝ }
+        ensures placed { λ r. ⌜ Placed 10 1 1 0 (now (text .entry)) 0 (left r) ⌝ }
+    {
+        Parts {
+            text,
+            at: 0,
+            line: 1,
+            by: b'\n',
+            step: 1,
+            more: true,
+        }
+    }
+
+    // The words of a line: the parts between single spaces, so two spaces have an empty word between
+    // them.
+    pub fn words(line: Part<'a>) -> Parts<'a>
+        ensures is { λ r. ⌜ left r ≡ words (told (line .entry)) ⌝ }
+        ensures whole { λ r. ⌜ Whole 32 (told (line .entry) .text) (left r) ⌝ }
+        ensures placed { λ r. ⌜ Placed 32 0 (told (line .entry) .place .line) (told (line .entry) .place .offset) (told (line .entry) .text) 0 (left r) ⌝ }
+    {
+        Parts {
+            text: line.upto,
+            at: line.place.offset,
+            line: line.place.line,
+            by: b' ',
+            step: 0,
+            more: true,
+        }
+    }
+
+    // The next part, or none after the last.
+    pub fn next(&mut self) -> Option<Part<'a>>
+        ensures { λ r. ⌜ BySome r ((left (now (self .entry)) ≡ []) × (now (self .exit) ≡ now (self .entry))) (λ p. told p ∷ left (now (self .exit)) ≡ left (now (self .entry))) ⌝ }
+    {
+        if !self.more {
+            return None;
+        }
+        let text = self.text;
+        let place = Place {
+            line: self.line,
+            offset: self.at,
+        };
+        let rest = tail(text, self.at);
+        let n = part_len(rest, self.by);
+        if n < rest.len() {
+            let end = self.at + n;
+            self.at = end + 1;
+            self.line += self.step;
+            Some(Part {
+                upto: &text[0..end],
+                place,
+            })
+        } else {
+            self.more = false;
+            Some(Part { upto: text, place })
+        }
+    }
+}
+
+// The value of a digit; absent for any other byte.
+fn digit(byte: u8) -> Option<u16>
+    ensures is { λ r. ⌜ r ≡ digitOf byte ⌝ }
+    ensures small { λ r. ⌜ BySome r (Unit {0}) (λ d. d < 10) ⌝ }
+{
+    match byte {
+        b'0'..=b'9' => Some((byte - b'0') as u16),
+        _ => None,
+    }
+}
+
+// The number of a number word: one to three digits, the first not 0 unless it is the only one.
+// Absent for any other word.
+pub fn number(word: &[u8]) -> Option<u16>
+    ensures is { λ r. ⌜ r ≡ numberOf (now (word .entry)) ⌝ }
+    ensures small { λ r. ⌜ BySome r (Unit {0}) (λ n. n < 1000) ⌝ }
+{
+    match word {
+        [a] => digit(*a),
+        [b'0', ..] => None,
+        [a, b] => Some(digit(*a)? * 10 + digit(*b)?),
+        [a, b, c] => Some(digit(*a)? * 100 + digit(*b)? * 10 + digit(*c)?),
+        _ => None,
+    }
+}
+
+#[cfg(test)]
+mod tests {
+    use super::*;
+    use std::test::*;
+
+    // The next part has this text and this place.
+    fn part(parts: &mut Parts, text: &[u8], line: usize, offset: usize) -> Result<(), Fail> {
+        let next = parts.next().ok_or("no part is left")?;
+        check(next.text() == text)?;
+        check_eq(next.place(), Place { line, offset })
+    }
+
+    fn end(parts: &mut Parts) -> Result<(), Fail> {
+        check(parts.next().is_none())
+    }
+
+    fn reads(word: &[u8], expected: Option<u16>) -> Result<(), Fail> {
+        check_eq(number(word), expected)
+    }
+
+    #[test]
+    fn empty_text_has_one_empty_line() -> Result<(), Fail> {
+        let mut lines = Parts::lines(b"");
+        part(&mut lines, b"", 1, 0)?;
+        end(&mut lines)
+    }
+
+    #[test]
+    fn lines_have_places() -> Result<(), Fail> {
+        let mut lines = Parts::lines(b"a\n\nb");
+        part(&mut lines, b"a", 1, 0)?;
+        part(&mut lines, b"", 2, 2)?;
+        part(&mut lines, b"b", 3, 3)?;
+        end(&mut lines)?;
+        end(&mut lines)
+    }
+
+    #[test]
+    fn words_have_places_in_the_whole_text() -> Result<(), Fail> {
+        let mut lines = Parts::lines(b"a\narc  1\n");
+        part(&mut lines, b"a", 1, 0)?;
+        let mut words = Parts::words(lines.next().ok_or("no line is left")?);
+        part(&mut words, b"arc", 2, 2)?;
+        part(&mut words, b"", 2, 6)?;
+        part(&mut words, b"1", 2, 7)?;
+        end(&mut words)?;
+        part(&mut lines, b"", 3, 9)?;
+        end(&mut lines)
+    }
+
+    #[test]
+    fn number_words() -> Result<(), Fail> {
+        reads(b"0", Some(0))?;
+        reads(b"7", Some(7))?;
+        reads(b"10", Some(10))?;
+        reads(b"999", Some(999))?;
+        reads(b"", None)?;
+        reads(b"00", None)?;
+        reads(b"007", None)?;
+        reads(b"12x", None)?;
+        reads(b"1000", None)
+    }
+}
