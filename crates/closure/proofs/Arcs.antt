@@ -3,7 +3,7 @@ use mathlib.Core.Path.{_≡_, refl, sym, ap, _∙_}
 use mathlib.Core.Bool.{Bool, true, false, cond, _&&_, _||_}
 use mathlib.Core.List.{List, []}
 use mathlib.Core.Logic.{⊎-elim}
-use Prim.Native.Nat.{ℕ, _<_, _≤_}
+use Prim.Native.Nat.{ℕ, _+_, _<_, _≤_}
 use native.Mathlib.Omega.{arith}
 use lib.Dec.{eqb, ltb}
 use lib.ListN.{length, getD, set, replicate}
@@ -18,7 +18,7 @@ use Rattle.sets.specs.Members.{withMember}
 use Rattle.sets.specs.FourWords.{inRow}
 use Rattle.sets.specs.declared.bit_row.BitRow.{BitRow}
 use Rattle.sets.proofs.FourWords.{row-below}
-use Rattle.closure.specs.Silent.{arcIn, withArc, leads, neighboursIn, places, at-place}
+use Rattle.closure.specs.Silent.{arcIn, withArc, leads, neighboursIn, places, at-place, reachedIn}
 
 -- the row of a stage
 abbrev rowAt : List BitRow → ℕ → List ℕ
@@ -73,3 +73,16 @@ place-is rows u v b h e =
     ap (λ (x : Bool). Some (cond x v u)) e
     ∙ ap Some (sym (at-place rows u v h))
     ∙ sym (nth-getD (neighboursIn rows u) v 0 (omega (arith, places rows u)))
+
+-- the reached stages below one more
+pub reached-more : (steps : List ℕ) (i v : ℕ) (old new : Bool) → i < 256 → (getD steps i 0 ≡ 65535 → ⊥) → old ≡ (ltb v i && reachedIn steps v) → new ≡ (old || (eqb v i && ltb i 256)) → new ≡ (ltb v (i + 1) && reachedIn steps v)
+reached-more steps i v old new h some was is = ⊎-elim
+    (λ (e : v ≡ i). let here : getD steps v 0 ≡ getD steps i 0 = ap (λ (x : ℕ). getD steps x 0) e in grind (arith, tells))
+    (λ (e : v ≡ i → ⊥). grind (arith, tells))
+    (cases-eq v i)
+
+pub reached-not : (steps : List ℕ) (i v : ℕ) (old : Bool) → getD steps i 0 ≡ 65535 → old ≡ (ltb v i && reachedIn steps v) → old ≡ (ltb v (i + 1) && reachedIn steps v)
+reached-not steps i v old none was = ⊎-elim
+    (λ (e : v ≡ i). let here : getD steps v 0 ≡ getD steps i 0 = ap (λ (x : ℕ). getD steps x 0) e in grind (arith, tells))
+    (λ (e : v ≡ i → ⊥). grind (arith, tells))
+    (cases-eq v i)

@@ -1,2 +1,5 @@
 pub mod Arcs
 pub mod Paths
+pub mod Gathering
+pub mod Writing
+pub mod Starts

@@ -1,6 +1,6 @@
 -- Silent arcs among the stages, which are the numbers below 256, and the paths along them. Assumes nothing.
 use mathlib.Core.Path.{_≡_, refl, sym, subst}
-use mathlib.Core.Bool.{Bool, true, false, cond, _&&_, _||_}
+use mathlib.Core.Bool.{Bool, true, false, cond, not, _&&_, _||_}
 use mathlib.Core.List.{List, [], map}
 use Prim.Native.Nat.{ℕ, suc, _<_, _≤_}
 use native.Mathlib.Omega.{arith}
@@ -65,3 +65,7 @@ PathFrom arc starts v k = (j : ℕ) × (j < length starts) × Path arc (getD sta
 -- the fewest silent arcs from a start to each stage: place v tells it of stage v, and is 65535 if no path leads there
 abbrev pub FewestArcs : (ℕ → ℕ → Bool) → List ℕ → List ℕ → Type 0
 FewestArcs arc starts steps = (v : ℕ) → v < 256 → Tells (PathFrom arc starts v) (getD steps v 0)
+
+-- whether a path leads to stage v, by what the steps tell
+abbrev pub reachedIn : List ℕ → ℕ → Bool
+reachedIn steps v = ltb v 256 && not (eqb (getD steps v 0) 65535)

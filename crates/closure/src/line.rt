@@ -42,8 +42,8 @@ impl LineFault {
     {
         match self {
             LineFault::UnknownWord(_) => "the first word is neither start nor arc",
-            LineFault::WordCount(_) => "a line is start STAGE or arc FROM TO",
-            LineFault::NotStage(_) => "a stage is a number from 0 to 255",
+            LineFault::WordCount(_) => "a line is start STAGE or arc FROM TO, with single spaces",
+            LineFault::NotStage(_) => "a stage is a number from 0 to 255 without leading zeros",
         }
     }
 
@@ -103,7 +103,7 @@ fn stage(word: Part) -> Result<u16, LineFault>
 {
     match number(word.text()) {
         Some(n) if n < 256 => Ok(n),
-        _ => Err(LineFault::NotStage(word.place())),
+        _ => Err(LineFault::NotStage(word.place)),
     }
 }
 
@@ -130,7 +130,7 @@ pub fn read_line(line: Part) -> Result<Request, LineFault>
     if is_skipped(line.text()) {
         return Ok(Request::Nothing);
     }
-    let place = line.place();
+    let place = line.place;
     let mut words = Parts::words(line);
     let head = word(&mut words, place)?;
     if is(head.text(), b"start") {
@@ -143,6 +143,6 @@ pub fn read_line(line: Part) -> Result<Request, LineFault>
         let to = stage(second)?;
         Ok(Request::Arc { from, to })
     } else {
-        Err(LineFault::UnknownWord(head.place()))
+        Err(LineFault::UnknownWord(head.place))
     }
 }

@@ -5,8 +5,9 @@ ghost use mathlib.Core.Bool.{Bool, true, false, not, _&&_, _||_};
 ghost use Prim.Native.Nat.{ℕ, _<_};
 ghost use lib.Dec.{eqb, ltb};
 ghost use lib.ListN.{length, getD};
-ghost use Rattle.closure.specs.Silent.{arcIn, withArc, neighboursIn, lawfulIn, FewestArcs};
+ghost use Rattle.closure.specs.Silent.{arcIn, withArc, neighboursIn, lawfulIn, FewestArcs, reachedIn};
 ghost use Rattle.std.specs.Results.{Cases};
+ghost use Rattle.sets.specs.FourWords.{inRow};
 ghost use Rattle.search.specs.Walks.{Starting};
 use search::breadth_first::NO_DISTANCE;
 use search::breadth_first::SearchFault;
@@ -91,4 +92,17 @@ pub impl Graph for SilentArcs as SilentArcsGraph {
             Some(node)
         }
     }
+}
+
+/// The stages that a path leads to, by what `steps_from` answers.
+pub fn reached(steps: &[u16; 256]) -> BitRow
+    ensures { λ r. ⌜ ((v : ℕ) → inRow (r .words) v ≡ reachedIn (now (steps .entry)) v) ⌝ }
+{
+    let mut stages = BitRow::empty();
+    for stage in 0..256 {
+        if steps[stage as usize] != NO_DISTANCE {
+            stages.insert(stage);
+        }
+    }
+    stages
 }

@@ -1,12 +1,12 @@
--- The parts of a text give it back.
+-- The parts of a text, joined by the byte between them, give it back, and none of them has that byte.
 use mathlib.Core.Path.{_≡_, refl, ap, _∙_}
 use mathlib.Core.List.{List, [], _∷_}
 use Prim.Native.Nat.{ℕ, _+_, _<_}
 use native.Mathlib.Omega.{arith}
 use lib.Dec.{eqb}
-use lib.ListN.{length, take, drop}
+use lib.ListN.{length}
 use Rattle.std.proofs.shelf.Tests.{cond-both, eqb-true, eqb-false}
-use Rattle.text.specs.Split.{Told, parts, before, empty, joined, Free, Whole, partLen}
+use Rattle.text.specs.Split.{Told, parts, before, empty, joined, Free, Whole}
 use Rattle.text.proofs.First.{first}
 
 some : (by step line at : ℕ) (bs : List ℕ) → 0 < length (parts by step line at bs)

@@ -11,6 +11,7 @@ use Rattle.std.proofs.shelf.Tests.{eq-eqb, ne-eqb, cond-true}
 use Rattle.std.proofs.shelf.Lists.{drop-more, drop-drop, drop-take, drop-all, take-all}
 use Rattle.text.specs.Split.{Told, partLen, parts, before, empty}
 
+-- A part with this text at this place.
 abbrev pub tell : ℕ → ℕ → List ℕ → Told
 tell line at text = record { text = text; place = record { line = line; offset = at } }
 
@@ -19,17 +20,17 @@ abbrev pub past : ℕ → ℕ → ℕ → ℕ → List ℕ → List Told
 past by step line at [] = []
 past by step line at (b ∷ bs) = parts by step (line + step) at bs
 
--- The first part has n bytes.
-abbrev pub Split : ℕ → ℕ → ℕ → ℕ → List ℕ → ℕ → Type 0
-Split by step line at bs n = parts by step line at bs ≡ tell line at (take n bs) ∷ past by step line (at + suc n) (drop n bs)
+-- The first part is the first n bytes, and the others begin past the byte behind it.
+abbrev pub Begins : ℕ → ℕ → ℕ → ℕ → List ℕ → ℕ → Type 0
+Begins by step line at bs n = parts by step line at bs ≡ tell line at (take n bs) ∷ past by step line (at + suc n) (drop n bs)
 
-one-more : (t : Bool) (by step line at b : ℕ) (bs : List ℕ) → Split by step line (at + 1) bs (partLen by bs) → cond t (empty line at ∷ parts by step (line + step) (at + 1) bs) (before line at b (parts by step line (at + 1) bs)) ≡ tell line at (take (cond t 0 (suc (partLen by bs))) (b ∷ bs)) ∷ past by step line (at + suc (cond t 0 (suc (partLen by bs)))) (drop (cond t 0 (suc (partLen by bs))) (b ∷ bs))
+one-more : (t : Bool) (by step line at b : ℕ) (bs : List ℕ) → Begins by step line (at + 1) bs (partLen by bs) → cond t (empty line at ∷ parts by step (line + step) (at + 1) bs) (before line at b (parts by step line (at + 1) bs)) ≡ tell line at (take (cond t 0 (suc (partLen by bs))) (b ∷ bs)) ∷ past by step line (at + suc (cond t 0 (suc (partLen by bs)))) (drop (cond t 0 (suc (partLen by bs))) (b ∷ bs))
 one-more true by step line at b bs e = refl
 one-more false by step line at b bs e =
     let n : at + 1 + suc (partLen by bs) ≡ at + suc (suc (partLen by bs)) = omega arith in
     ap (before line at b) e ∙ ap (λ i. tell line at (b ∷ take (partLen by bs) bs) ∷ past by step line i (drop (partLen by bs) bs)) n
 
-pub first : (by step line at : ℕ) (bs : List ℕ) → Split by step line at bs (partLen by bs)
+pub first : (by step line at : ℕ) (bs : List ℕ) → Begins by step line at bs (partLen by bs)
 first by step line at [] = refl
 first by st line at (b ∷ bs) = one-more (eqb b by) by st line at b bs (first by st line (at + 1) bs)
 
@@ -48,7 +49,7 @@ past-some : (by step line at : ℕ) (bs : List ℕ) → 0 < length bs → past b
 past-some by step line at [] h = absurd (omega arith)
 past-some by step line at (b ∷ bs) h = refl
 
--- What one call of `next` gives, where a byte `by` stands behind the part and where none does.
+-- What `take_first` gives and leaves, where a byte `by` stands behind the part and where none does.
 module _ (by step line at n : ℕ) (bs rest : List ℕ) (more : Bool) (there : more ≡ true) (rest-is : rest ≡ drop at bs) (is : n ≡ partLen by rest) where
   split : cond more (parts by step line at (drop at bs)) [] ≡ tell line at (take n (drop at bs)) ∷ past by step line (at + suc n) (drop n (drop at bs))
   split =

@@ -2,11 +2,11 @@
 use mathlib.Core.List.{List, [], _∷_}
 use mathlib.Core.Bool.{cond}
 use Prim.Native.Nat.{ℕ, _+_, _-_, _*_}
-use lib.Dec.{leb, ltb, eqb}
+use lib.Dec.{leb, eqb}
 use Rattle.std.specs.declared.option.Option.{Option}
 use Rattle.std.specs.declared.option.Option.the-variants.{Some, None}
 
--- The value of a digit's byte.
+-- The value of a byte that is a digit, from 48 for 0 to 57 for 9.
 abbrev pub digitOf : ℕ → Option ℕ
 digitOf b = cond (leb 48 b) (cond (leb b 57) (Some (b - 48)) None) None
 

@@ -14,7 +14,7 @@ pub record Told : Type 0 where
   pub text : List ℕ
   pub place : Place
 
--- What a part of the code tells.
+-- What a `Part` tells.
 abbrev pub told : Part → Told
 told p = record { text = drop (p .place .offset) (p .upto .now); place = p .place }
 
@@ -27,7 +27,7 @@ partLen by (b ∷ bs) = cond (eqb b by) 0 (suc (partLen by bs))
 abbrev pub empty : ℕ → ℕ → Told
 empty line at = record { text = []; place = record { line = line; offset = at } }
 
--- The parts with the byte b, which stands at this place, before the first of them.
+-- The parts with the byte b, which stands at this place, in front of the first of them.
 abbrev pub before : ℕ → ℕ → ℕ → List Told → List Told
 before line at b [] = []
 before line at b (p ∷ ps) = record { text = b ∷ p .text; place = record { line = line; offset = at } } ∷ ps
@@ -46,9 +46,9 @@ lines bs = parts 10 1 1 0 bs
 abbrev pub words : Told → List Told
 words p = parts 32 0 (p .place .line) (p .place .offset) (p .text)
 
--- What is still to come.
+-- What a `Parts` has still to give.
 abbrev pub left : Parts → List Told
-left c = cond (c .more) (parts (c .by) (c .step) (c .line) (c .at) (drop (c .at) (c .text .now))) []
+left c = cond (c .more) (parts (c .by) (c .step) (c .place .line) (c .place .offset) (drop (c .place .offset) (c .text .now))) []
 
 -- The texts of the parts in order, with one byte `by` between each two.
 abbrev pub joined : ℕ → List Told → List ℕ

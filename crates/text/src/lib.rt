@@ -1,10 +1,12 @@
-// The lines and words of a text of bytes, each with its place, and number words.
+// The lines and words of a text of bytes, each with its place, and the numbers that words write.
+// What the words mean is for the caller to say.
 ghost use mathlib.Core.Path.{_≡_};
-ghost use mathlib.Core.List.{List, [], _∷_};
-ghost use Prim.Native.Nat.{ℕ, _-_, _<_, _≤_};
+ghost use mathlib.Core.List.{[], _∷_};
+ghost use mathlib.Core.Bool.{true};
+ghost use Prim.Native.Nat.{_+_, _-_, _*_, _^_, _<_, _≤_};
 ghost use lib.ListN.{length, drop};
 ghost use Rattle.std.specs.Options.{Cases as BySome};
-ghost use Rattle.text.specs.Split.{partLen, words, lines, told, left, Whole, Placed};
+ghost use Rattle.text.specs.Split.{partLen, parts, words, lines, told, left, Whole, Placed};
 ghost use Rattle.text.specs.Numbers.{digitOf, numberOf};
 
 mod parts;
@@ -16,7 +18,7 @@ pub use parts::PlaceDebug;
 pub use parts::PlaceEq;
 pub use parts::PlacePartialEq;
 
-// The bytes of a text from an offset on: none if it is past the end.
+// The bytes of a text from an offset on: none if the offset is past the end.
 fn tail(text: &[u8], offset: usize) -> &[u8]
     ensures is { λ r. ⌜ now r ≡ drop offset (now (text .entry)) ⌝ }
     ensures len { λ r. ⌜ length (now r) ≡ length (now (text .entry)) - offset ⌝ }
@@ -48,13 +50,6 @@ impl<'a> Part<'a> {
     {
         tail(self.upto, self.place.offset)
     }
-
-    // Where the part begins.
-    pub fn place(&self) -> Place
-        ensures { λ r. ⌜ r ≡ told (now (self .entry)) .place ⌝ }
-    {
-        self.place
-    }
 }
 
 impl<'a> Parts<'a> {
@@ -65,58 +60,70 @@ impl<'a> Parts<'a> {
         ensures whole { λ r. ⌜ Whole 10 (now (text .entry)) (left r) ⌝ }
         ensures placed { λ r. ⌜ Placed 10 1 1 0 (now (text .entry)) 0 (left r) ⌝ }
     {
-        Parts {
-            text,
-            at: 0,
-            line: 1,
-            by: b'\n',
-            step: 1,
-            more: true,
-        }
+        let start = Place { line: 1, offset: 0 };
+        Parts::between(text, start, b'\n', 1)
     }
 
-    // The words of a line: the parts between single spaces, so two spaces have an empty word between
-    // them.
+    // The words of a line: the parts between single spaces, so two spaces in a row have an empty word
+    // between them.
     pub fn words(line: Part<'a>) -> Parts<'a>
         ensures is { λ r. ⌜ left r ≡ words (told (line .entry)) ⌝ }
         ensures whole { λ r. ⌜ Whole 32 (told (line .entry) .text) (left r) ⌝ }
         ensures placed { λ r. ⌜ Placed 32 0 (told (line .entry) .place .line) (told (line .entry) .place .offset) (told (line .entry) .text) 0 (left r) ⌝ }
     {
-        Parts {
-            text: line.upto,
-            at: line.place.offset,
-            line: line.place.line,
-            by: b' ',
-            step: 0,
-            more: true,
-        }
+        Parts::between(line.upto, line.place, b' ', 0)
     }
 
     // The next part, or none after the last.
     pub fn next(&mut self) -> Option<Part<'a>>
         ensures { λ r. ⌜ BySome r ((left (now (self .entry)) ≡ []) × (now (self .exit) ≡ now (self .entry))) (λ p. told p ∷ left (now (self .exit)) ≡ left (now (self .entry))) ⌝ }
     {
-        if !self.more {
-            return None;
+        if self.more {
+            Some(self.take_first())
+        } else {
+            None
         }
+    }
+
+    // The parts of a text from a place on, between the bytes `by`, each of which takes the line on by
+    // `step`.
+    fn between(text: &'a [u8], place: Place, by: u8, step: usize) -> Parts<'a>
+        requires { ⌜ place .line + step * (length (now text) - place .offset) < 2 ^ 64 ⌝ }
+        ensures is { λ r. ⌜ left r ≡ parts by step (place .line) (place .offset) (drop (place .offset) (now (text .entry))) ⌝ }
+        ensures whole { λ r. ⌜ Whole by (drop (place .offset) (now (text .entry))) (left r) ⌝ }
+        ensures placed { λ r. ⌜ Placed by step (place .line) (place .offset) (drop (place .offset) (now (text .entry))) 0 (left r) ⌝ }
+    {
+        Parts {
+            text,
+            place,
+            by,
+            step,
+            more: true,
+        }
+    }
+
+    // Takes the first of the parts to come, of which there must be one.
+    fn take_first(&mut self) -> Part<'a>
+        requires { ⌜ now self .more ≡ true ⌝ }
+        ensures { λ r. ⌜ told r ∷ left (now (self .exit)) ≡ left (now (self .entry)) ⌝ }
+    {
         let text = self.text;
-        let place = Place {
-            line: self.line,
-            offset: self.at,
-        };
-        let rest = tail(text, self.at);
+        let place = self.place;
+        let rest = tail(text, place.offset);
         let n = part_len(rest, self.by);
         if n < rest.len() {
-            let end = self.at + n;
-            self.at = end + 1;
-            self.line += self.step;
-            Some(Part {
+            let end = place.offset + n;
+            self.place = Place {
+                line: place.line + self.step,
+                offset: end + 1,
+            };
+            Part {
                 upto: &text[0..end],
                 place,
-            })
+            }
         } else {
             self.more = false;
-            Some(Part { upto: text, place })
+            Part { upto: text, place }
         }
     }
 }
@@ -156,7 +163,7 @@ mod tests {
     fn part(parts: &mut Parts, text: &[u8], line: usize, offset: usize) -> Result<(), Fail> {
         let next = parts.next().ok_or("no part is left")?;
         check(next.text() == text)?;
-        check_eq(next.place(), Place { line, offset })
+        check(next.place == Place { line, offset })
     }
 
     fn end(parts: &mut Parts) -> Result<(), Fail> {
@@ -164,7 +171,7 @@ mod tests {
     }
 
     fn reads(word: &[u8], expected: Option<u16>) -> Result<(), Fail> {
-        check_eq(number(word), expected)
+        check(number(word) == expected)
     }
 
     #[test]
@@ -176,32 +183,29 @@ mod tests {
 
     #[test]
     fn lines_have_places() -> Result<(), Fail> {
-        let mut lines = Parts::lines(b"a\n\nb");
+        let mut lines = Parts::lines(b"a\n\nb\n");
         part(&mut lines, b"a", 1, 0)?;
         part(&mut lines, b"", 2, 2)?;
         part(&mut lines, b"b", 3, 3)?;
-        end(&mut lines)?;
+        part(&mut lines, b"", 4, 5)?;
         end(&mut lines)
     }
 
     #[test]
     fn words_have_places_in_the_whole_text() -> Result<(), Fail> {
-        let mut lines = Parts::lines(b"a\narc  1\n");
+        let mut lines = Parts::lines(b"a\narc  1");
         part(&mut lines, b"a", 1, 0)?;
         let mut words = Parts::words(lines.next().ok_or("no line is left")?);
         part(&mut words, b"arc", 2, 2)?;
         part(&mut words, b"", 2, 6)?;
         part(&mut words, b"1", 2, 7)?;
-        end(&mut words)?;
-        part(&mut lines, b"", 3, 9)?;
-        end(&mut lines)
+        end(&mut words)
     }
 
     #[test]
     fn number_words() -> Result<(), Fail> {
         reads(b"0", Some(0))?;
         reads(b"7", Some(7))?;
-        reads(b"10", Some(10))?;
         reads(b"999", Some(999))?;
         reads(b"", None)?;
         reads(b"00", None)?;
