@@ -37,11 +37,12 @@ pub arc-ends : (rows : List BitRow) (u v : ℕ) → arcIn rows u v ≡ true → 
 unfolding arcIn
 arc-ends rows u v h = let p = and-parts (ltb u 256) (inRow (rowAt rows u) v) h in (ltb-true u 256 (p .0), row-below (rowAt rows u) v (p .1))
 
--- empty rows are no arcs
-pub arc-none : (row : BitRow) → ((n : ℕ) → inRow (row .words) n ≡ false) → (u v : ℕ) → arcIn (replicate 256 row) u v ≡ false
-arc-none row h u v = ⊎-elim
-    (λ (l : u < 256). arc-in (replicate 256 row) u v l ∙ ap (λ (r : BitRow). inRow (r .words) v) (getD-replicate 256 u row (record { words = [] }) l) ∙ h v)
-    (λ (l : 256 ≤ u). arc-out (replicate 256 row) u v l)
+-- the same row for every stage
+pub arc-repeated : (row : BitRow) (u v : ℕ) → arcIn (replicate 256 row) u v ≡ (ltb u 256 && inRow (row .words) v)
+unfolding arcIn
+arc-repeated row u v = ⊎-elim
+    (λ (l : u < 256). ap (λ (r : BitRow). ltb u 256 && inRow (r .words) v) (getD-replicate 256 u row (record { words = [] }) l))
+    (λ (l : 256 ≤ u). let e = le-ltb u 256 l in rw e)
     (cases-lt u 256)
 
 -- arcs from other stages stay
@@ -68,11 +69,9 @@ arc-more rows from to row long low h u v = ⊎-elim
 pub place-past : (rows : List BitRow) (u v : ℕ) → 256 ≤ v → _≡_ {A = Option ℕ} None (nth (neighboursIn rows u) v)
 place-past rows u v h = sym (nth-past (neighboursIn rows u) v (omega (arith, places rows u)))
 
-pub place-is : (rows : List BitRow) (u v : ℕ) (b : Bool) → v < 256 → b ≡ arcIn rows u v → Some (cond b v u) ≡ nth (neighboursIn rows u) v
-place-is rows u v b h e =
-    ap (λ (x : Bool). Some (cond x v u)) e
-    ∙ ap Some (sym (at-place rows u v h))
-    ∙ sym (nth-getD (neighboursIn rows u) v 0 (omega (arith, places rows u)))
+pub place-is : (rows : List BitRow) (u v x : ℕ) → v < 256 → x ≡ leads rows u v → Some x ≡ nth (neighboursIn rows u) v
+place-is rows u v x h e =
+    ap Some (e ∙ sym (at-place rows u v h)) ∙ sym (nth-getD (neighboursIn rows u) v 0 (omega (arith, places rows u)))
 
 -- the reached stages below one more
 pub reached-more : (steps : List ℕ) (i v : ℕ) (old new : Bool) → i < 256 → (getD steps i 0 ≡ 65535 → ⊥) → old ≡ (ltb v i && reachedIn steps v) → new ≡ (old || (eqb v i && ltb i 256)) → new ≡ (ltb v (i + 1) && reachedIn steps v)

@@ -20,9 +20,9 @@ use Rattle.closure.specs.declared.line.LineFault.the-variants.{UnknownWord, Wo
 
 -- each fault's reason in words
 abbrev pub reasonOf : LineFault → List ℕ
-reasonOf (UnknownWord p) = codes "the first word is neither start nor arc"
-reasonOf (WordCount p) = codes "a line is start STAGE or arc FROM TO, with single spaces"
-reasonOf (NotStage p) = codes "a stage is a number from 0 to 255 without leading zeros"
+reasonOf (UnknownWord p) = codes "first word is not start or arc"
+reasonOf (WordCount p) = codes "not start STAGE or arc FROM TO"
+reasonOf (NotStage p) = codes "not a stage from 0 to 255"
 
 -- each fault's place
 abbrev pub placeOf : LineFault → Place

@@ -5,3 +5,6 @@ pub mod line;
 pub mod reading;
 pub mod report;
 pub mod silent_arcs;
+
+#[cfg(test)]
+mod tests;

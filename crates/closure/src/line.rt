@@ -41,9 +41,9 @@ impl LineFault {
         ensures { λ r. ⌜ now r ≡ reasonOf (now (self .entry)) ⌝ }
     {
         match self {
-            LineFault::UnknownWord(_) => "the first word is neither start nor arc",
-            LineFault::WordCount(_) => "a line is start STAGE or arc FROM TO, with single spaces",
-            LineFault::NotStage(_) => "a stage is a number from 0 to 255 without leading zeros",
+            LineFault::UnknownWord(_) => "first word is not start or arc",
+            LineFault::WordCount(_) => "not start STAGE or arc FROM TO",
+            LineFault::NotStage(_) => "not a stage from 0 to 255",
         }
     }
 

@@ -5,7 +5,7 @@ ghost use mathlib.Core.Bool.{Bool, true, false, not, _&&_, _||_};
 ghost use Prim.Native.Nat.{ℕ, _<_};
 ghost use lib.Dec.{eqb, ltb};
 ghost use lib.ListN.{length, getD};
-ghost use Rattle.closure.specs.Silent.{arcIn, withArc, neighboursIn, lawfulIn, FewestArcs, reachedIn};
+ghost use Rattle.closure.specs.Silent.{arcIn, withArc, leads, neighboursIn, lawfulIn, FewestArcs, reachedIn};
 ghost use Rattle.std.specs.Results.{Cases};
 ghost use Rattle.sets.specs.FourWords.{inRow};
 ghost use Rattle.search.specs.Walks.{Starting};
@@ -27,13 +27,31 @@ pub struct SilentArcs {
     rows: [BitRow; 256],
 }
 
+/// The same row for every stage.
+fn repeated(row: BitRow) -> [BitRow; 256]
+    ensures { λ r. ⌜ ((u v : ℕ) → arcIn r u v ≡ (ltb u 256 && inRow (row .words) v)) ⌝ }
+{
+    [row; 256]
+}
+
 impl SilentArcs {
     /// No arcs.
     pub fn new() -> SilentArcs
         ensures { λ r. ⌜ ((u v : ℕ) → arcIn (r .rows) u v ≡ false) ⌝ }
     {
         SilentArcs {
-            rows: [BitRow::empty(); 256],
+            rows: repeated(BitRow::empty()),
+        }
+    }
+
+    /// The row of a stage, which is empty for a number that is none.
+    fn row(&self, from: u16) -> BitRow
+        ensures { λ r. ⌜ ((v : ℕ) → inRow (r .words) v ≡ arcIn (now (self .entry) .rows) from v) ⌝ }
+    {
+        if from < 256 {
+            self.rows[from as usize]
+        } else {
+            BitRow::empty()
         }
     }
 
@@ -41,7 +59,14 @@ impl SilentArcs {
     pub fn contains(&self, from: u16, to: u16) -> bool
         ensures { λ r. ⌜ r ≡ arcIn (now (self .entry) .rows) from to ⌝ }
     {
-        from < 256 && self.rows[from as usize].contains(to)
+        self.row(from).contains(to)
+    }
+
+    /// Where place `to` of a stage leads: to stage `to` if there is such an arc, and else back to the stage itself.
+    fn leads(&self, from: u16, to: u16) -> u16
+        ensures { λ r. ⌜ r ≡ leads (now (self .entry) .rows) from to ⌝ }
+    {
+        if self.contains(from, to) { to } else { from }
     }
 
     /// Adds an arc if both numbers are stages, else nothing. Answers whether there is one more arc.
@@ -81,15 +106,13 @@ pub impl Graph for SilentArcs as SilentArcsGraph {
         256
     }
 
-    // A place without an arc leads back to its own stage, so that every place is read at once: no shortest walk
-    // takes such a turn.
+    // Every stage has 256 places, so that a neighbour is read at once. No shortest walk takes a place that leads back
+    // to its own stage.
     fn neighbour(&self, node: u16, place: u16) -> Option<u16> {
-        if place >= 256 {
-            None
-        } else if self.contains(node, place) {
-            Some(place)
+        if place < 256 {
+            Some(self.leads(node, place))
         } else {
-            Some(node)
+            None
         }
     }
 }

@@ -1,4 +1,5 @@
 use mathlib.Core.Path.{ap, _∙_}
+use native.Mathlib.Omega.{arith}
 use Rattle.sets.specs.FourWords.{inRow}
 use Rattle.closure.proofs.Arcs.{reached-more, reached-not}
 use Rattle.closure.proofs.silent_arcs.reached.Needs as need
@@ -7,6 +8,6 @@ use Rattle.closure.proofs.silent_arcs.reached.Needs.{then-steps-stage, else-st
 pub loop-stage-again : need.loop-stage-again
 loop-stage-again c v =
     elim (c .if-steps-stage .came) [
-      | then-steps-stage w ↦ ap (λ s. inRow (s .words) v) (w .stages-is) ∙ reached-more (c .args .steps .now) (c .loop-stage .stage) v _ _ (c .loop-stage-test .taken) (w .if-steps-stage .taken) (c .loop-stage .inv v) (w .insert .ensures .members v)
+      | then-steps-stage w ↦ ap (λ s. inRow (s .words) v) (w .stages-is) ∙ reached-more (c .args .steps .now) (c .loop-stage .stage) v _ _ (omega arith) (w .if-steps-stage .taken) (c .loop-stage .inv v) (w .insert .ensures .members v)
       | else-steps-stage w ↦ ap (λ s. inRow (s .words) v) (w .stages-is) ∙ reached-not (c .args .steps .now) (c .loop-stage .stage) v _ (w .if-steps-stage .left) (c .loop-stage .inv v)
     ]
