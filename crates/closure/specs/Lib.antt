@@ -1,4 +1,1 @@
 pub mod Silent
-pub mod Lines
-pub mod Readings
-pub mod Reports

@@ -103,7 +103,7 @@ pub impl Graph for SilentArcs as SilentArcsGraph {
     ghost lawful = { λ g. lawfulIn (g .rows) };
 
     fn node_count(&self) -> u16 {
-        256
+        STAGES
     }
 
     // Every stage has 256 places, so that a neighbour is read at once. No shortest walk takes a place that leads back

@@ -51,9 +51,18 @@ fn lent_memory() -> Result<(), Fail> {
     check_eq(distance[257], 9)?;
     let mut short = [9; 255];
     let mut whole = [9; 256];
-    check_eq(search(&arcs, &[0], &mut short, &mut whole), Err(SearchFault::Unfit))?;
-    check_eq(search(&arcs, &[0], &mut whole, &mut short), Err(SearchFault::Unfit))?;
-    check_eq(search(&arcs, &[256], &mut whole, &mut work), Err(SearchFault::Unfit))?;
+    check_eq(
+        search(&arcs, &[0], &mut short, &mut whole),
+        Err(SearchFault::Unfit),
+    )?;
+    check_eq(
+        search(&arcs, &[0], &mut whole, &mut short),
+        Err(SearchFault::Unfit),
+    )?;
+    check_eq(
+        search(&arcs, &[256], &mut whole, &mut work),
+        Err(SearchFault::Unfit),
+    )?;
     check_eq(SearchFault::Unfit.number(), 5)?;
     check_eq(whole[0], 9)?;
     check_eq(short[0], 9)

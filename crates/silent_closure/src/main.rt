@@ -1,7 +1,7 @@
 //! Reads silent arcs and start stages from standard input, a line each, and prints which stages are reached by silent
-//! arcs alone. `closure::report::respond` does the work, and its contract gives what is printed.
+//! arcs alone. `closure_text::report::respond` does the work, and its contract gives what is printed.
 
-use closure::report::respond;
+use closure_text::report::respond;
 use std::io;
 use std::io::Read;
 

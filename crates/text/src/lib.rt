@@ -1,5 +1,6 @@
-// The lines and words of a text of bytes, each with its place, and the numbers that words write.
-// What the words mean is for the caller to say.
+//! The lines and words of a text of bytes, each with its place, and the numbers that words write.
+//! What the words mean is for the caller to say.
+
 ghost use mathlib.Core.Path.{_≡_};
 ghost use mathlib.Core.List.{[], _∷_};
 ghost use mathlib.Core.Bool.{true};
@@ -18,7 +19,7 @@ pub use parts::PlaceDebug;
 pub use parts::PlaceEq;
 pub use parts::PlacePartialEq;
 
-// The bytes of a text from an offset on: none if the offset is past the end.
+/// The bytes of a text from an offset on: none if the offset is past the end.
 fn tail(text: &[u8], offset: usize) -> &[u8]
     ensures is { λ r. ⌜ now r ≡ drop offset (now (text .entry)) ⌝ }
     ensures len { λ r. ⌜ length (now r) ≡ length (now (text .entry)) - offset ⌝ }
@@ -30,7 +31,7 @@ fn tail(text: &[u8], offset: usize) -> &[u8]
     }
 }
 
-// How many bytes stand before the first that is `by`.
+/// How many bytes stand before the first that is `by`.
 fn part_len(bytes: &[u8], by: u8) -> usize
     ensures is { λ r. ⌜ r ≡ partLen by (now (bytes .entry)) ⌝ }
     ensures within { λ r. ⌜ r ≤ length (now (bytes .entry)) ⌝ }
@@ -44,7 +45,7 @@ fn part_len(bytes: &[u8], by: u8) -> usize
 }
 
 impl<'a> Part<'a> {
-    // The bytes of the part.
+    /// The bytes of the part.
     pub fn text(&self) -> &'a [u8]
         ensures { λ r. ⌜ now r ≡ told (now (self .entry)) .text ⌝ }
     {
@@ -53,8 +54,8 @@ impl<'a> Part<'a> {
 }
 
 impl<'a> Parts<'a> {
-    // The lines of a text: the parts between bytes 10. After a last byte 10 there is one more line,
-    // which is empty.
+    /// The lines of a text: the parts between bytes 10. After a last byte 10 there is one more line,
+    /// which is empty.
     pub fn lines(text: &'a [u8]) -> Parts<'a>
         ensures is { λ r. ⌜ left r ≡ lines (now (text .entry)) ⌝ }
         ensures whole { λ r. ⌜ Whole 10 (now (text .entry)) (left r) ⌝ }
@@ -64,8 +65,8 @@ impl<'a> Parts<'a> {
         Parts::between(text, start, b'\n', 1)
     }
 
-    // The words of a line: the parts between single spaces, so two spaces in a row have an empty word
-    // between them.
+    /// The words of a line: the parts between single spaces, so two spaces in a row have an empty word
+    /// between them.
     pub fn words(line: Part<'a>) -> Parts<'a>
         ensures is { λ r. ⌜ left r ≡ words (told (line .entry)) ⌝ }
         ensures whole { λ r. ⌜ Whole 32 (told (line .entry) .text) (left r) ⌝ }
@@ -74,7 +75,7 @@ impl<'a> Parts<'a> {
         Parts::between(line.upto, line.place, b' ', 0)
     }
 
-    // The next part, or none after the last.
+    /// The next part, or none after the last.
     pub fn next(&mut self) -> Option<Part<'a>>
         ensures { λ r. ⌜ BySome r ((left (now (self .entry)) ≡ []) × (now (self .exit) ≡ now (self .entry))) (λ p. told p ∷ left (now (self .exit)) ≡ left (now (self .entry))) ⌝ }
     {
@@ -85,8 +86,8 @@ impl<'a> Parts<'a> {
         }
     }
 
-    // The parts of a text from a place on, between the bytes `by`, each of which takes the line on by
-    // `step`.
+    /// The parts of a text from a place on, between the bytes `by`, each of which takes the line on by
+    /// `step`.
     fn between(text: &'a [u8], place: Place, by: u8, step: usize) -> Parts<'a>
         requires { ⌜ place .line + step * (length (now text) - place .offset) < 2 ^ 64 ⌝ }
         ensures is { λ r. ⌜ left r ≡ parts by step (place .line) (place .offset) (drop (place .offset) (now (text .entry))) ⌝ }
@@ -102,7 +103,7 @@ impl<'a> Parts<'a> {
         }
     }
 
-    // Takes the first of the parts to come, of which there must be one.
+    /// Takes the first of the parts to come, of which there must be one.
     fn take_first(&mut self) -> Part<'a>
         requires { ⌜ now self .more ≡ true ⌝ }
         ensures { λ r. ⌜ told r ∷ left (now (self .exit)) ≡ left (now (self .entry)) ⌝ }
@@ -128,7 +129,7 @@ impl<'a> Parts<'a> {
     }
 }
 
-// The value of a digit; absent for any other byte.
+/// The value of a digit; absent for any other byte.
 fn digit(byte: u8) -> Option<u16>
     ensures is { λ r. ⌜ r ≡ digitOf byte ⌝ }
     ensures small { λ r. ⌜ BySome r (Unit {0}) (λ d. d < 10) ⌝ }
@@ -139,8 +140,8 @@ fn digit(byte: u8) -> Option<u16>
     }
 }
 
-// The number of a number word: one to three digits, the first not 0 unless it is the only one.
-// Absent for any other word.
+/// The number of a number word: one to three digits, the first not 0 unless it is the only one.
+/// Absent for any other word.
 pub fn number(word: &[u8]) -> Option<u16>
     ensures is { λ r. ⌜ r ≡ numberOf (now (word .entry)) ⌝ }
     ensures small { λ r. ⌜ BySome r (Unit {0}) (λ n. n < 1000) ⌝ }
@@ -159,7 +160,7 @@ mod tests {
     use super::*;
     use std::test::*;
 
-    // The next part has this text and this place.
+    /// The next part has this text and this place.
     fn part(parts: &mut Parts, text: &[u8], line: usize, offset: usize) -> Result<(), Fail> {
         let next = parts.next().ok_or("no part is left")?;
         check(next.text() == text)?;

@@ -1,0 +1,25 @@
+use mathlib.Core.Path.{ap, _∙_}
+use mathlib.Core.List.{_++_}
+use Rattle.std.specs.Joined.{joined}
+use Rattle.std.specs.Of.String.{string-bytes}
+use Rattle.std.specs.Of.Vec.{vec-items}
+use Rattle.sets.specs.FourWords.{inRow}
+use Rattle.sets.proofs.Bits.{size-alike}
+use Rattle.closure.specs.Silent.{reachedIn}
+use Rattle.closure_text.specs.Reports.{faultLine}
+use Rattle.closure_text.proofs.Writing.{whole-answer}
+use Rattle.closure_text.proofs.report.answer.Needs as need
+
+pub returns : need.returns
+returns c =
+    whole-answer (vec-items (c .args .reading .now .faults)) (vec-items (c .args .reading .now .starts)) (c .args .steps .now)
+    (string-bytes (c .in-Continue-out .out)) (string-bytes (c .in-Continue-stages .stages)) (string-bytes (c .in-Continue-last .last)) (string-bytes (c .push-str .last .self)) (string-bytes (c .push-str-2 .last .self))
+    (c .count-count .result) (c .len .result) (c .len-2 .result)
+    (c .in-Continue-out .ensures tt ∙ ap (joined faultLine) (c .as-slice .ensures .value))
+    (c .in-Continue-stages .ensures tt)
+    (c .in-Continue-last .ensures tt)
+    (c .count-count .ensures ∙ size-alike 256 (inRow (c .reached .result .words)) (reachedIn (c .args .steps .now)) (λ v _. c .reached .ensures v))
+    (c .len .ensures ∙ c .args .reading .now .starts .ok .0)
+    (c .len-2 .ensures ∙ c .args .reading .now .faults .ok .0)
+    (c .in-Continue-push-str .ensures tt .bytes ∙ ap (λ b. string-bytes (c .in-Continue-out .out) ++ b) (c .as-str .ensures .value))
+    (c .in-Continue-push-str-2 .ensures tt .bytes ∙ ap (λ b. string-bytes (c .push-str .last .self) ++ b) (c .as-str-2 .ensures .value))

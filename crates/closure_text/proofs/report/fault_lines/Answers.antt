@@ -1,0 +1,14 @@
+use mathlib.Core.Path.{_∙_}
+use Rattle.std.specs.Of.String.{string-bytes}
+use Rattle.closure_text.specs.Reports.{faultLine}
+use Rattle.closure_text.proofs.Writing.{lines-more, lines-all}
+use Rattle.closure_text.proofs.report.fault_lines.Needs as need
+
+pub loop-fault-again : need.loop-fault-again
+loop-fault-again c =
+    lines-more faultLine (c .args .faults .now) (c .loop-fault .fault-index) _ (string-bytes (c .loop-fault .out)) _ _ (c .loop-fault-test .taken) (c .loop-fault .inv)
+    (c .as-str .ensures .value ∙ c .in-Continue-line .ensures tt)
+    (c .in-Continue-push-str .ensures tt .bytes)
+
+pub returns : need.returns
+returns c = lines-all faultLine (c .args .faults .now) (c .loop-fault .fault-index) (string-bytes (c .loop-fault .out)) (c .loop-fault-test .left) (c .loop-fault .inv)
