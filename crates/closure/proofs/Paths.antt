@@ -4,11 +4,10 @@ use mathlib.Core.Bool.{Bool, true, false, cond}
 use mathlib.Core.List.{List}
 use Prim.Native.Nat.{ℕ, suc, _<_, _≤_}
 use native.Mathlib.Omega.{arith}
-use lib.ListN.{length, getD}
 use Rattle.sets.specs.declared.bit_row.BitRow.{BitRow}
 use Rattle.search.specs.Walks.{Walk, stay, step, From, Tells}
 use Rattle.search.proofs.Telling.{tells-like}
-use Rattle.closure.specs.Silent.{arcIn, leads, neighboursIn, places, at-place, Path, none, more, PathFrom}
+use Rattle.closure.specs.Silent.{arcIn, neighboursIn, places, at-place, Path, none, more, PathFrom}
 use Rattle.closure.proofs.Arcs.{arc-ends}
 
 path-walk : (rows : List BitRow) {s v k : ℕ} → Path (arcIn rows) s v k → Walk (neighboursIn rows) s v k

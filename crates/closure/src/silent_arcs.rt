@@ -1,10 +1,9 @@
 //! Silent arcs among stages, as a graph.
 
 ghost use mathlib.Core.Path.{_≡_};
-ghost use mathlib.Core.Bool.{Bool, true, false, not, _&&_, _||_};
-ghost use Prim.Native.Nat.{ℕ, _<_};
-ghost use lib.Dec.{eqb, ltb};
-ghost use lib.ListN.{length, getD};
+ghost use mathlib.Core.Bool.{false, not, _&&_};
+ghost use Prim.Native.Nat.{ℕ};
+ghost use lib.Dec.{ltb};
 ghost use Rattle.closure.specs.Silent.{arcIn, withArc, leads, neighboursIn, lawfulIn, FewestArcs, reachedIn};
 ghost use Rattle.std.specs.Results.{Cases};
 ghost use Rattle.sets.specs.FourWords.{inRow};

@@ -4,8 +4,6 @@ use mathlib.Core.List.{List, [], _∷_, _++_, append-assoc, append-nil}
 use mathlib.Core.Bool.{Bool, true, false, _||_}
 use Prim.Native.Nat.{ℕ}
 use Rattle.std.specs.Of.Vec.{vec-items}
-use Rattle.std.proofs.shelf.Ways.{tells}
-use native.Mathlib.Omega.{arith}
 use Rattle.text.specs.Split.{Told}
 use Rattle.closure_text.specs.declared.reading.Reading.{Reading}
 use Rattle.closure.specs.Silent.{arcIn}

@@ -1,6 +1,6 @@
 -- Every start that a line gives is a stage. Assumes nothing.
 use mathlib.Core.Path.{_≡_, refl}
-use mathlib.Core.List.{List, [], _∷_, _++_}
+use mathlib.Core.List.{List, [], _∷_}
 use mathlib.Core.Bool.{Bool, true, false, cond}
 use Prim.Native.Nat.{ℕ, _<_}
 use lib.Dec.{ltb}
@@ -18,9 +18,9 @@ use Rattle.text.specs.declared.parts.Place.{Place}
 use Rattle.text.specs.Split.{Told, words}
 use Rattle.text.specs.Numbers.{numberOf}
 use Rattle.closure_text.specs.declared.line.Request.{Request}
-use Rattle.closure_text.specs.declared.line.Request.the-variants.{Nothing, Start, Arc}
+use Rattle.closure_text.specs.declared.line.Request.the-variants.{Start, Arc}
 use Rattle.closure_text.specs.declared.line.LineFault.{LineFault}
-use Rattle.closure_text.specs.declared.line.LineFault.the-variants.{UnknownWord, WordCount, NotStage}
+use Rattle.closure_text.specs.declared.line.LineFault.the-variants.{NotStage}
 use Rattle.closure_text.specs.Lines.{andThen, oneOf, twoOf, stageAt, stageOf, fromWords, skipped, requestOf}
 use Rattle.closure_text.specs.Readings.{startsIn, startsOf}
 

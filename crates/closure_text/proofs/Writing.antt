@@ -1,6 +1,6 @@
 -- Lines written one after another. Assumes nothing.
 use mathlib.Core.Path.{_≡_, sym, ap, ap₂, subst₂, _∙_}
-use mathlib.Core.List.{List, [], _∷_, _++_, append-assoc, append-nil}
+use mathlib.Core.List.{List, [], _++_, append-assoc, append-nil}
 use mathlib.Core.Bool.{Bool, true, false, cond}
 use Prim.Native.Nat.{ℕ, _+_, _<_, _≤_}
 use lib.Dec.{eqb}

@@ -1,8 +1,7 @@
 //! What one line of the input asks for.
 
 ghost use mathlib.Core.Path.{_≡_};
-ghost use mathlib.Core.List.{List, [], _∷_};
-ghost use lib.Dec.{eqb};
+ghost use mathlib.Core.List.{[], _∷_};
 ghost use Rattle.std.specs.Results.{Cases};
 ghost use Rattle.std.specs.shelf.Text.{sameBytes};
 ghost use Rattle.text.specs.Split.{told, left};

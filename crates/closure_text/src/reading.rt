@@ -1,13 +1,7 @@
 //! What the whole input asks for.
 
-ghost use mathlib.Core.Path.{_≡_};
-ghost use mathlib.Core.List.{[]};
-ghost use mathlib.Core.Bool.{false};
-ghost use Prim.Native.Nat.{ℕ};
-ghost use Rattle.std.specs.Of.Vec.{vec-items};
 ghost use Rattle.std.specs.Vec.{made};
 ghost use Rattle.text.specs.Split.{lines};
-ghost use Rattle.closure.specs.Silent.{arcIn};
 ghost use Rattle.closure_text.specs.Readings.{Blank, Added, Reads};
 use crate::line::LineFault;
 use crate::line::Request;

@@ -9,7 +9,7 @@ use borrow.Author.Count.{below-more}
 use lib.ListN.{length, getD, set}
 use Rattle.std.proofs.shelf.Lists.{getD-set-same, getD-set-other, length-set}
 use Rattle.std.proofs.shelf.Tests.{cases-eq}
-use Rattle.search.specs.Walks.{From, step, stay}
+use Rattle.search.specs.Walks.{From, step}
 use Rattle.search.specs.Queue.{Queued, Walked, Near, Led, Grown, Joined, Visiting, Visited, Begun, Going, unseen, at}
 use Rattle.search.proofs.Unseen.{unseen-set, unseen-all}
 

@@ -1,19 +1,19 @@
 -- Lists that ascend. Assumes nothing.
-use mathlib.Core.Path.{_≡_, refl, sym, ap, ap₂, subst, _∙_}
-use mathlib.Core.Bool.{Bool, true, false, _&&_, _||_, not}
-use mathlib.Core.List.{List, [], _∷_}
+use mathlib.Core.Path.{_≡_, refl, sym, ap, ap₂, _∙_}
+use mathlib.Core.Bool.{Bool, true, false, _&&_, _||_}
+use mathlib.Core.List.{List}
 use mathlib.Core.Logic.{_⊎_, inl, inr, ⊎-elim}
-use Prim.Native.Nat.{ℕ, zero, suc, _+_, _-_, _*_, _≤_, _<_, min}
-use native.Mathlib.Nat.{add-zero, add-suc}
+use Prim.Native.Nat.{ℕ, zero, suc, _+_, _-_, _≤_, _<_, min}
+use native.Mathlib.Nat.{add-zero}
 use native.Mathlib.Numerals.{add-one}
 use native.Mathlib.Omega.{arith}
-use lib.Dec.{eqb, ltb, leb}
+use lib.Dec.{eqb, ltb}
 use lib.ListN.{length, getD, set, replicate, length-set, length-replicate}
 use Rattle.std.specs.Orderings.{Decides}
 use Rattle.std.proofs.shelf.Lists.{getD-set-same, getD-set-other}
-use Rattle.std.proofs.shelf.Tests.{lt-ltb, le-ltb, le-leb, lt-leb, ltb-true, leb-true, cases-lt, cases-eq, cases-bool, cases-order, both-ways, eq-eqb, ne-eqb, eqb-true, and-parts, and-from, and-left, and-right, false≢true, true≢false}
+use Rattle.std.proofs.shelf.Tests.{lt-ltb, le-ltb, le-leb, lt-leb, ltb-true, leb-true, cases-lt, cases-eq, cases-bool, cases-order, both-ways, eq-eqb, ne-eqb, and-parts, and-from, and-left, and-right}
 use Rattle.std.proofs.shelf.Ways.{tells, decides-below-or, decides-below-and, decides-eqb}
-use Rattle.sets.specs.Members.{one, size, withMember, SameMembers, FirstFrom}
+use Rattle.sets.specs.Members.{one, size, SameMembers, FirstFrom}
 use Rattle.sets.specs.AscendingLists.{Ascending, lowest, inOrder, allInOrder, passes, among, inRecord}
 use Rattle.sets.proofs.Bits.{size-alike}
 

@@ -1,21 +1,21 @@
 -- What four words of 64 bits mean, step by step of the code. Assumes nothing.
-use mathlib.Core.Path.{_≡_, refl, sym, ap, ap₂, subst, _∙_}
-use mathlib.Core.Bool.{Bool, true, false, _&&_, _||_, not}
+use mathlib.Core.Path.{_≡_, refl, sym, ap, ap₂, _∙_}
+use mathlib.Core.Bool.{Bool, true, false, _&&_, _||_}
 use mathlib.Core.List.{List, [], _∷_}
-use mathlib.Core.Logic.{_⊎_, inl, inr, ⊎-elim}
+use mathlib.Core.Logic.{_⊎_, ⊎-elim}
 use Prim.Native.Nat.{ℕ, zero, suc, _+_, _-_, _*_, _/_, _%_, _^_, _≤_, _<_}
 use native.Mathlib.Nat.{div-eq-of-lt}
 use native.Mathlib.Omega.{arith}
-use lib.Dec.{eqb, ltb, leb}
-use lib.Bits.{bitAnd, bitOr}
+use lib.Dec.{eqb, ltb}
+use lib.Bits.{bitOr}
 use lib.Count.{ones, trailingZeros}
 use lib.ListN.{length, getD, set}
 use lib.Pow.{pow-mono}
 use Rattle.std.proofs.shelf.Lists.{getD-set-same, getD-set-other}
-use Rattle.std.proofs.shelf.Tests.{lt-ltb, le-ltb, cases-lt, cases-eq, cases-bool, both-ways, eq-eqb, ne-eqb, or-from}
+use Rattle.std.proofs.shelf.Tests.{lt-ltb, le-ltb, cases-lt, cases-eq, both-ways}
 use Rattle.std.proofs.shelf.Ways.{tells}
 use Rattle.std.proofs.shelf.Bits.{one-shl, div-mul-add, mod-mul-add}
-use Rattle.sets.specs.Members.{one, size, withMember, SameMembers}
+use Rattle.sets.specs.Members.{size, withMember, SameMembers}
 use Rattle.sets.specs.FourWords.{bit, inRow}
 use Rattle.sets.proofs.Bits.{bit-or, bit-pow, bit-shr, bit-zero, same-bits, size-add, size-alike, ones-size, trailing-first, fromBits, from-bits}
 

@@ -1,7 +1,7 @@
 use mathlib.Core.Path.{sym, subst}
 use Rattle.text.specs.Split.{told, left, lines}
 use Rattle.closure_text.specs.Readings.{Added}
-use Rattle.closure_text.proofs.Gathering.{Begun, begun-none, begun-more, begun-all}
+use Rattle.closure_text.proofs.Gathering.{Begun, begun-more}
 use Rattle.closure_text.proofs.reading.read.Needs as need
 
 pub loop-line-again : need.loop-line-again

@@ -1,10 +1,7 @@
-use Prim.Native.Nat.{ℕ, _<_, _≤_, _*_, _+_, _/_}
-use mathlib.Core.Path.{_≡_}
-use mathlib.Core.Bool.{false}
+use Prim.Native.Nat.{_<_, _≤_, _*_}
 use mathlib.Core.Logic.{⊎-elim}
 use native.Mathlib.Omega.{arith}
 use Rattle.std.proofs.shelf.Tests.{cases-lt}
-use Rattle.sets.specs.FourWords.{inRow}
 use Rattle.sets.proofs.FourWords.{row-out, row-tail, row-tail-none, row-next, row-skip}
 use Rattle.sets.proofs.four_words.first_from.Needs as need
 

@@ -1,6 +1,5 @@
-use Prim.Native.Nat.{_<_, _≤_, _^_}
 use native.Mathlib.Omega.{arith}
-use lib.Count.{ones, ones-le}
+use lib.Count.{ones-le}
 use lib.ListN.{getD}
 use Rattle.sets.proofs.FourWords.{row-count}
 use Rattle.sets.proofs.four_words.ones.Needs as need

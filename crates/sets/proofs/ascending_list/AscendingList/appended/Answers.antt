@@ -1,6 +1,4 @@
-use Prim.Native.Nat.{_<_}
 use native.Mathlib.Omega.{arith}
-use lib.ListN.{length}
 use Rattle.sets.proofs.AscendingLists.{push-room, push-ascends, push-members}
 use Rattle.sets.proofs.ascending_list.AscendingList.appended.Needs as need
 

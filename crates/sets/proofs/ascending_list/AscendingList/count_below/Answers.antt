@@ -1,4 +1,4 @@
-use Prim.Native.Nat.{ℕ, _<_, _≤_, _+_, _/_}
+use Prim.Native.Nat.{_+_, _/_}
 use native.Mathlib.Omega.{arith}
 use Rattle.sets.proofs.AscendingLists.{climb-le}
 use Rattle.sets.proofs.ascending_list.AscendingList.count_below.Needs as need

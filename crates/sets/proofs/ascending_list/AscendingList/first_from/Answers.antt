@@ -1,4 +1,3 @@
-use native.Mathlib.Omega.{arith}
 use Rattle.sets.proofs.AscendingLists.{first-found, first-none}
 use Rattle.sets.proofs.ascending_list.AscendingList.first_from.Needs as need
 
