@@ -1,6 +1,6 @@
 -- A reading of lines, one after another. Assumes nothing.
-use mathlib.Core.Path.{_≡_, refl, sym, ap, _∙_}
-use mathlib.Core.List.{List, [], _∷_, _++_, append-assoc, append-nil}
+use mathlib.Core.Path.{_≡_, refl, ap, _∙_}
+use mathlib.Core.List.{List, _∷_, _++_, append-assoc}
 use mathlib.Core.Bool.{Bool, true, false, _||_}
 use Prim.Native.Nat.{ℕ}
 use Rattle.std.specs.Of.Vec.{vec-items}
@@ -8,7 +8,7 @@ use Rattle.text.specs.Split.{Told}
 use Rattle.closure_text.specs.declared.reading.Reading.{Reading}
 use Rattle.closure.specs.Silent.{arcIn}
 use Rattle.closure_text.specs.Lines.{requestOf}
-use Rattle.closure_text.specs.Readings.{startsIn, arcGiven, faultsIn, startsOf, arcsOf, faultsOf, Blank, Added, Reads}
+use Rattle.closure_text.specs.Readings.{startsIn, arcGiven, faultsIn, startsOf, arcsOf, faultsOf, Added}
 
 -- what is read, with what the lines that are left ask for, is what all ask for
 pub record Begun (all rest : List Told) (r : Reading) : Type 0 where
@@ -16,14 +16,7 @@ pub record Begun (all rest : List Told) (r : Reading) : Type 0 where
   pub starts : vec-items (r .starts) ++ startsOf rest ≡ startsOf all
   pub faults : vec-items (r .faults) ++ faultsOf rest ≡ faultsOf all
 
-pub begun-none : (all : List Told) (r : Reading) → Blank r → Begun all all r
-begun-none all r b =
-    record {
-      arcs = λ u v. ap (λ (t : Bool). t || arcsOf all u v) (b .arcs u v);
-      starts = ap (λ xs. xs ++ startsOf all) (b .starts);
-      faults = ap (λ xs. xs ++ faultsOf all) (b .faults);
-    }
-
+-- one line more
 pub begun-more : (all rest : List Told) (l : Told) (old new : Reading) → Begun all (l ∷ rest) old → Added (requestOf l) old new → Begun all rest new
 begun-more all rest l old new b a =
     record {
@@ -35,15 +28,3 @@ begun-more all rest l old new b a =
     or-assoc : (x y z : Bool) → ((x || y) || z) ≡ (x || (y || z))
     or-assoc true y z = refl
     or-assoc false y z = refl
-
-pub begun-all : (all : List Told) (r : Reading) → Begun all [] r → Reads all r
-begun-all all r b =
-    record {
-      arcs = λ u v. or-false (arcIn (r .arcs .rows) u v) ∙ b .arcs u v;
-      starts = sym (append-nil (vec-items (r .starts))) ∙ b .starts;
-      faults = sym (append-nil (vec-items (r .faults))) ∙ b .faults;
-    }
-  where
-    or-false : (x : Bool) → x ≡ (x || false)
-    or-false true = refl
-    or-false false = refl

@@ -145,17 +145,6 @@ none-queued dist work small fits clear =
       ordered = λ p r l h. absurd (omega arith);
     }
 
--- before the first neighbour
-pub visited-none : (nbr : ℕ → List ℕ) (dist work : List ℕ) (head tail : ℕ) → Visiting dist work head tail → Visited nbr (getD work head 0) (at dist work head + 1) 0 dist work tail dist work tail
-visited-none nbr dist work head tail v =
-    record {
-      queue = v .queue;
-      walks = λ starts ws. ws;
-      near = v .near;
-      grown = grown-none dist work tail;
-      led = λ j h. absurd (omega arith);
-    }
-
 -- one neighbour more
 pub visited-more : (nbr : ℕ → List ℕ) (dist work : List ℕ) (head tail i : ℕ) {dist₁ work₁ dist₂ work₂ : List ℕ} {tail₁ tail₂ : ℕ} → Visiting dist work head tail → i < length (nbr (getD work head 0)) → getD (nbr (getD work head 0)) i 0 < length dist₁ → Visited nbr (getD work head 0) (at dist work head + 1) i dist work tail dist₁ work₁ tail₁ → Joined dist₁ work₁ tail₁ (getD (nbr (getD work head 0)) i 0) (at dist work head + 1) dist₂ work₂ tail₂ → Visited nbr (getD work head 0) (at dist work head + 1) (i + 1) dist work tail dist₂ work₂ tail₂
 visited-more nbr dist work head tail i {dist₁} {work₁} {dist₂} {work₂} {tail₁} {tail₂} v h inn w j =
