@@ -18,7 +18,8 @@ use Rattle.sets.specs.Members.{withMember}
 use Rattle.sets.specs.FourWords.{inRow}
 use Rattle.sets.specs.declared.bit_row.BitRow.{BitRow}
 use Rattle.sets.proofs.FourWords.{row-below}
-use Rattle.closure.specs.Silent.{arcIn, withArc, leads, neighboursIn, places, at-place, reachedIn}
+use Rattle.closure.specs.Neighbours.{leads, neighboursIn, places, at-place}
+use Rattle.closure.specs.Silent.{arcIn, withArc, reachedIn}
 
 -- the row of a stage
 abbrev rowAt : List BitRow → ℕ → List ℕ

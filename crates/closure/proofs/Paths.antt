@@ -7,7 +7,8 @@ use native.Mathlib.Omega.{arith}
 use Rattle.sets.specs.declared.bit_row.BitRow.{BitRow}
 use Rattle.search.specs.Walks.{Walk, stay, step, From, Tells}
 use Rattle.search.proofs.Telling.{tells-like}
-use Rattle.closure.specs.Silent.{arcIn, neighboursIn, places, at-place, Path, none, more, PathFrom}
+use Rattle.closure.specs.Neighbours.{neighboursIn, places, at-place}
+use Rattle.closure.specs.Silent.{arcIn, Path, none, more, PathFrom}
 use Rattle.closure.proofs.Arcs.{arc-ends}
 
 path-walk : (rows : List BitRow) {s v k : ℕ} → Path (arcIn rows) s v k → Walk (neighboursIn rows) s v k

@@ -2,7 +2,7 @@
 use mathlib.Core.Path.{_≡_, refl, sym, ap, ap₂, _∙_}
 use mathlib.Core.Bool.{Bool, true, false, _||_}
 use mathlib.Core.Logic.{_⊎_, inl, inr, ⊎-elim}
-use Prim.Native.Nat.{ℕ, zero, suc, _+_, _-_, _*_, _/_, _%_, _^_, _<_}
+use Prim.Native.Nat.{ℕ, zero, suc, _+_, _-_, _*_, _/_, _%_, _^_, _≤_, _<_}
 use native.Mathlib.Nat.{pow-suc, div-one, add-suc}
 use native.Mathlib.Numerals.{one-add}
 use native.Mathlib.Omega.{arith}
@@ -87,6 +87,19 @@ pub size-add : (a b : ℕ) (p : ℕ → Bool) → size (a + b) p ≡ size a p + 
 unfolding size
 size-add a zero p = rw (native.Mathlib.Nat.add-zero a) (omega arith)
 size-add a (suc b) p = rw add-suc (let h = size-add a b p in omega arith)
+
+pub size-zero : (p : ℕ → Bool) → size 0 p ≡ 0
+unfolding size
+size-zero p = refl
+
+one-le : (b : Bool) → one b ≤ 1
+one-le true = omega arith
+one-le false = omega arith
+
+pub size-le : (n : ℕ) (p : ℕ → Bool) → size n p ≤ n
+unfolding size
+size-le zero p = omega arith
+size-le (suc n) p = omega (arith, size-le n p, one-le (p n))
 
 pub size-first : (n : ℕ) (p : ℕ → Bool) → size (suc n) p ≡ one (p 0) + size n (λ k. p (suc k))
 unfolding size

@@ -120,14 +120,11 @@ row-put ws n k len h = ⊎-elim
 block : (ws : List ℕ) (i : ℕ) → i < 4 → getD ws i 0 < 2 ^ 64 → ones (getD ws i 0) ≡ size 64 (λ j. inRow ws (i * 64 + j))
 block ws i l h = ones-size 64 (getD ws i 0) h ∙ size-alike 64 _ _ (λ j k. sym (row-at ws i j l k))
 
-pub row-count : (ws : List ℕ) → getD ws 0 0 < 2 ^ 64 → getD ws 1 0 < 2 ^ 64 → getD ws 2 0 < 2 ^ 64 → getD ws 3 0 < 2 ^ 64
-    → ones (getD ws 0 0) + ones (getD ws 1 0) + ones (getD ws 2 0) + ones (getD ws 3 0) ≡ size 256 (inRow ws)
-row-count ws a b c d =
-    let p : size 256 (inRow ws) ≡ size 192 (inRow ws) + size 64 (λ j. inRow ws (3 * 64 + j)) = size-add 192 64 (inRow ws) in
-    let q : size 192 (inRow ws) ≡ size 128 (inRow ws) + size 64 (λ j. inRow ws (2 * 64 + j)) = size-add 128 64 (inRow ws) in
-    let r : size 128 (inRow ws) ≡ size 64 (inRow ws) + size 64 (λ j. inRow ws (1 * 64 + j)) = size-add 64 64 (inRow ws) in
-    let s : size 64 (λ j. inRow ws (0 * 64 + j)) ≡ size 64 (inRow ws) = size-alike 64 _ _ (λ j k. ap (inRow ws) (omega arith)) in
-    omega (arith, block ws 0 (omega arith) a, block ws 1 (omega arith) b, block ws 2 (omega arith) c, block ws 3 (omega arith) d)
+-- the numbers of one word more
+pub row-count-more : (ws : List ℕ) (i : ℕ) → i < 4 → getD ws i 0 < 2 ^ 64 → size (i * 64) (inRow ws) + ones (getD ws i 0) ≡ size ((i + 1) * 64) (inRow ws)
+row-count-more ws i l h =
+    let e : (i + 1) * 64 ≡ i * 64 + 64 = omega arith in
+    ap (λ (n : ℕ). size (i * 64) (inRow ws) + n) (block ws i l h) ∙ sym (size-add (i * 64) 64 (inRow ws)) ∙ ap (λ (n : ℕ). size n (inRow ws)) (sym e)
 
 -- ---- the next member
 

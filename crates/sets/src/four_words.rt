@@ -56,10 +56,11 @@ pub fn equal(a: &[u64; 4], b: &[u64; 4]) -> bool
 pub fn ones(words: &[u64; 4]) -> u16
     ensures { λ r. ⌜ r ≡ size 256 (inRow (now (words .entry))) ⌝ }
 {
-    (words[0].count_ones()
-        + words[1].count_ones()
-        + words[2].count_ones()
-        + words[3].count_ones()) as u16
+    let mut total = 0;
+    for word in words {
+        total += word.count_ones() as u16;
+    }
+    total
 }
 
 /// The least number in the row that is not below `from`, if there is one.
