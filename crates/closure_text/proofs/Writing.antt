@@ -17,13 +17,16 @@ use Rattle.closure.specs.Silent.{arcIn, reachedIn, FewestArcs}
 use Rattle.closure_text.specs.Readings.{arcsOf, Reads}
 use Rattle.closure_text.specs.Reports.{faultLine, stageLine, stageLines, countLine, answerOf, Responds}
 
--- one element more of a list of which each has its line
-pub lines-more : {X : Type 0} (line : X → List ℕ) (xs : List X) (i : ℕ) (d : X) (out out′ new : List ℕ) → i < length xs → out ≡ joined line (take i xs) → new ≡ line (getD xs i d) → out′ ≡ out ++ new → out′ ≡ joined line (take (i + 1) xs)
-lines-more line xs i d out out′ new h was is more =
-    more ∙ ap₂ (λ (a b : List ℕ). a ++ b) was is ∙ joined-more line [] (take i xs) (getD xs i d) ∙ ap (joined line) (sym (take-more xs i d h))
+-- one element more of a list of which each has its line, after what was written at the start
+pub lines-more : {X : Type 0} (line : X → List ℕ) (xs : List X) (i : ℕ) (d : X) (start out out′ : List ℕ) → i < length xs → out ≡ start ++ joined line (take i xs) → out′ ≡ out ++ line (getD xs i d) → out′ ≡ start ++ joined line (take (i + 1) xs)
+lines-more line xs i d start out out′ h was more =
+    more
+    ∙ ap (λ (a : List ℕ). a ++ line (getD xs i d)) was
+    ∙ joined-more line start (take i xs) (getD xs i d)
+    ∙ ap (λ ys. start ++ joined line ys) (sym (take-more xs i d h))
 
-pub lines-all : {X : Type 0} (line : X → List ℕ) (xs : List X) (i : ℕ) (out : List ℕ) → length xs ≤ i → out ≡ joined line (take i xs) → out ≡ joined line xs
-lines-all line xs i out h was = was ∙ ap (joined line) (take-all i xs h)
+pub lines-all : {X : Type 0} (line : X → List ℕ) (xs : List X) (i : ℕ) (start out : List ℕ) → length xs ≤ i → out ≡ start ++ joined line (take i xs) → out ≡ start ++ joined line xs
+lines-all line xs i start out h was = was ∙ ap (λ ys. start ++ joined line ys) (take-all i xs h)
 
 -- what stage i and the later ones have
 stage-here : (steps : List ℕ) (i : ℕ) (b : Bool) → i < length steps → eqb (getD steps i 0) 65535 ≡ b → stageLines i (drop i steps) ≡ cond b [] (stageLine i (getD steps i 0)) ++ stageLines (i + 1) (drop (i + 1) steps)
@@ -31,9 +34,9 @@ stage-here steps i b h e =
     at-drop-more (stageLines i) steps i 0 h ∙ ap (λ (t : Bool). cond t [] (stageLine i (getD steps i 0)) ++ stageLines (i + 1) (drop (i + 1) steps)) e
 
 -- a reached stage more
-pub stage-more : (steps : List ℕ) (i : ℕ) (out out′ new whole : List ℕ) → i < length steps → (getD steps i 0 ≡ 65535 → ⊥) → new ≡ stageLine i (getD steps i 0) → out′ ≡ out ++ new → out ++ stageLines i (drop i steps) ≡ whole → out′ ++ stageLines (i + 1) (drop (i + 1) steps) ≡ whole
-stage-more steps i out out′ new whole h some is more was =
-    ap (λ (a : List ℕ). a ++ stageLines (i + 1) (drop (i + 1) steps)) (more ∙ ap (λ (a : List ℕ). out ++ a) is)
+pub stage-more : (steps : List ℕ) (i : ℕ) (out out′ whole : List ℕ) → i < length steps → (getD steps i 0 ≡ 65535 → ⊥) → out′ ≡ out ++ stageLine i (getD steps i 0) → out ++ stageLines i (drop i steps) ≡ whole → out′ ++ stageLines (i + 1) (drop (i + 1) steps) ≡ whole
+stage-more steps i out out′ whole h some more was =
+    ap (λ (a : List ℕ). a ++ stageLines (i + 1) (drop (i + 1) steps)) more
     ∙ append-assoc out (stageLine i (getD steps i 0)) (stageLines (i + 1) (drop (i + 1) steps))
     ∙ ap (λ (a : List ℕ). out ++ a) (sym (stage-here steps i false h (ne-eqb (getD steps i 0) 65535 some)))
     ∙ was
@@ -47,12 +50,11 @@ pub stage-all : (steps : List ℕ) (i : ℕ) (out whole : List ℕ) → length s
 stage-all steps i out whole h was = sym (append-nil out) ∙ ap (λ (a : List ℕ). out ++ a) (sym (at-drop-all (stageLines i) steps i h)) ∙ was
 
 -- the three parts of the answer, one after another
-pub whole-answer : (faults : List LineFault) (starts steps out stages last with-stages whole : List ℕ) (reached given refused : ℕ) → out ≡ joined faultLine faults → stages ≡ stageLines 0 steps → last ≡ countLine reached given refused → reached ≡ size 256 (reachedIn steps) → given ≡ length starts → refused ≡ length faults → with-stages ≡ out ++ stages → whole ≡ with-stages ++ last → whole ≡ answerOf faults starts steps
-whole-answer faults starts steps out stages last with-stages whole reached given refused first middle end many some wrong add more =
-    more
-    ∙ ap (λ (a : List ℕ). a ++ last) add
-    ∙ append-assoc out stages last
-    ∙ ap₂ (λ (a b : List ℕ). a ++ b) first (ap₂ (λ (a b : List ℕ). a ++ b) middle (end ∙ counts))
+pub whole-answer : (faults : List LineFault) (starts steps one two three : List ℕ) (reached given refused : ℕ) → one ≡ joined faultLine faults → two ≡ one ++ stageLines 0 steps → three ≡ two ++ countLine reached given refused → reached ≡ size 256 (reachedIn steps) → given ≡ length starts → refused ≡ length faults → three ≡ answerOf faults starts steps
+whole-answer faults starts steps one two three reached given refused first second third many some wrong =
+    third
+    ∙ ap₂ (λ (a b : List ℕ). a ++ b) (second ∙ ap (λ (a : List ℕ). a ++ stageLines 0 steps) first) counts
+    ∙ append-assoc (joined faultLine faults) (stageLines 0 steps) (countLine (size 256 (reachedIn steps)) (length starts) (length faults))
   where
     counts : countLine reached given refused ≡ countLine (size 256 (reachedIn steps)) (length starts) (length faults)
     counts =

@@ -1,6 +1,7 @@
 //! The answer as text.
 
 ghost use mathlib.Core.Path.{_≡_};
+ghost use mathlib.Core.List.{_++_};
 ghost use Rattle.std.specs.Of.String.{string-bytes};
 ghost use Rattle.std.specs.Of.Vec.{vec-items};
 ghost use Rattle.std.specs.Vec.{made};
@@ -16,75 +17,83 @@ use sets::small_set::SmallSet;
 use std::alloc::AllocError;
 use std::alloc::Global;
 
-/// The line that tells of a refused line.
-fn fault_line(heap: Global, fault: &LineFault) -> Result<String, AllocError>
-    ensures { λ r. ⌜ made r (λ s. string-bytes s ≡ faultLine (now (fault .entry))) ⌝ }
+/// Writes the line that tells of a refused line.
+fn write_fault(out: &mut String, heap: Global, fault: &LineFault) -> Result<(), AllocError>
+    ensures { λ r. ⌜ made r (λ _. string-bytes (now (out .exit)) ≡ string-bytes (now (out .entry)) ++ faultLine (now (fault .entry))) ⌝ }
 {
     let place = fault.place();
     let line = place.line;
     let offset = place.offset;
     let reason = fault.reason();
-    format!(heap, "line {line}, byte {offset}: {reason}\n")
+    let text = format!(heap, "line {line}, byte {offset}: {reason}\n")?;
+    out.push_str(text.as_str())?;
+    Ok(())
 }
 
-/// The line that tells of a reached stage.
-fn stage_line(heap: Global, stage: usize, steps: u16) -> Result<String, AllocError>
-    ensures { λ r. ⌜ made r (λ s. string-bytes s ≡ stageLine stage steps) ⌝ }
+/// Writes the line that tells of a reached stage.
+fn write_stage(out: &mut String, heap: Global, stage: usize, steps: u16) -> Result<(), AllocError>
+    ensures { λ r. ⌜ made r (λ _. string-bytes (now (out .exit)) ≡ string-bytes (now (out .entry)) ++ stageLine stage steps) ⌝ }
 {
-    format!(heap, "stage {stage}, silent steps {steps}\n")
+    let text = format!(heap, "stage {stage}, silent steps {steps}\n")?;
+    out.push_str(text.as_str())?;
+    Ok(())
 }
 
-/// The last line.
-fn count_line(
+/// Writes the last line.
+fn write_counts(
+    out: &mut String,
     heap: Global,
     reached: u16,
     starts: usize,
     faults: usize,
-) -> Result<String, AllocError>
-    ensures { λ r. ⌜ made r (λ s. string-bytes s ≡ countLine reached starts faults) ⌝ }
+) -> Result<(), AllocError>
+    ensures { λ r. ⌜ made r (λ _. string-bytes (now (out .exit)) ≡ string-bytes (now (out .entry)) ++ countLine reached starts faults) ⌝ }
 {
-    format!(
+    let text = format!(
         heap,
         "stages reached {reached}, starts {starts}, lines refused {faults}\n"
-    )
+    )?;
+    out.push_str(text.as_str())?;
+    Ok(())
 }
 
-/// A line for each refused line.
-fn fault_lines(heap: Global, faults: &[LineFault]) -> Result<String, AllocError>
-    ensures { λ r. ⌜ made r (λ s. string-bytes s ≡ joined faultLine (now (faults .entry))) ⌝ }
+/// Writes a line for each refused line.
+fn write_faults(out: &mut String, heap: Global, faults: &[LineFault]) -> Result<(), AllocError>
+    ensures { λ r. ⌜ made r (λ _. string-bytes (now (out .exit)) ≡ string-bytes (now (out .entry)) ++ joined faultLine (now (faults .entry))) ⌝ }
 {
-    let mut out = String::new(heap);
     for fault in faults {
-        let line = fault_line(heap, fault)?;
-        out.push_str(line.as_str())?;
+        write_fault(out, heap, fault)?;
     }
-    Ok(out)
+    Ok(())
 }
 
-/// A line for each reached stage, in ascending order.
-fn stage_lines(heap: Global, steps: &[u16; 256]) -> Result<String, AllocError>
-    ensures { λ r. ⌜ made r (λ s. string-bytes s ≡ stageLines 0 (now (steps .entry))) ⌝ }
+/// Writes a line for each reached stage, in ascending order.
+fn write_stages(out: &mut String, heap: Global, steps: &[u16; 256]) -> Result<(), AllocError>
+    ensures { λ r. ⌜ made r (λ _. string-bytes (now (out .exit)) ≡ string-bytes (now (out .entry)) ++ stageLines 0 (now (steps .entry))) ⌝ }
 {
-    let mut out = String::new(heap);
     for stage in 0..256 {
         if steps[stage] != NO_DISTANCE {
-            let line = stage_line(heap, stage, steps[stage])?;
-            out.push_str(line.as_str())?;
+            write_stage(out, heap, stage, steps[stage])?;
         }
     }
-    Ok(out)
+    Ok(())
 }
 
 /// The whole answer: the refused lines, the reached stages, and the counts.
 fn answer(heap: Global, reading: &Reading, steps: &[u16; 256]) -> Result<String, AllocError>
     ensures { λ r. ⌜ made r (λ s. string-bytes s ≡ answerOf (vec-items (now (reading .entry) .faults)) (vec-items (now (reading .entry) .starts)) (now (steps .entry))) ⌝ }
 {
-    let mut out = fault_lines(heap, reading.faults.as_slice())?;
-    let stages = stage_lines(heap, steps)?;
-    out.push_str(stages.as_str())?;
+    let mut out = String::new(heap);
+    write_faults(&mut out, heap, reading.faults.as_slice())?;
+    write_stages(&mut out, heap, steps)?;
     let count = reached(steps).count();
-    let last = count_line(heap, count, reading.starts.len(), reading.faults.len())?;
-    out.push_str(last.as_str())?;
+    write_counts(
+        &mut out,
+        heap,
+        count,
+        reading.starts.len(),
+        reading.faults.len(),
+    )?;
     Ok(out)
 }
 

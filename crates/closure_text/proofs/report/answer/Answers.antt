@@ -1,4 +1,4 @@
-use mathlib.Core.Path.{ap, _∙_}
+use mathlib.Core.Path.{ap₂, _∙_}
 use mathlib.Core.List.{_++_}
 use Rattle.std.specs.Joined.{joined}
 use Rattle.std.specs.Of.String.{string-bytes}
@@ -13,13 +13,11 @@ use Rattle.closure_text.proofs.report.answer.Needs as need
 pub returns : need.returns
 returns c =
     whole-answer (vec-items (c .args .reading .now .faults)) (vec-items (c .args .reading .now .starts)) (c .args .steps .now)
-    (string-bytes (c .in-Continue-out .out)) (string-bytes (c .in-Continue-stages .stages)) (string-bytes (c .in-Continue-last .last)) (string-bytes (c .push-str .last .self)) (string-bytes (c .push-str-2 .last .self))
+    (string-bytes (c .write-faults .last .out)) (string-bytes (c .write-stages .last .out)) (string-bytes (c .write-counts .last .out))
     (c .count-count .result) (c .len .result) (c .len-2 .result)
-    (c .in-Continue-out .ensures tt ∙ ap (joined faultLine) (c .as-slice .ensures .value))
-    (c .in-Continue-stages .ensures tt)
-    (c .in-Continue-last .ensures tt)
+    (c .in-Continue-write-faults .ensures tt ∙ ap₂ (λ a xs. a ++ joined faultLine xs) (c .new-out .ensures .bytes) (c .as-slice .ensures .value))
+    (c .in-Continue-write-stages .ensures tt)
+    (c .in-Continue-write-counts .ensures tt)
     (c .count-count .ensures ∙ size-alike 256 (inRow (c .reached .result .words)) (reachedIn (c .args .steps .now)) (λ v _. c .reached .ensures v))
     (c .len .ensures ∙ c .args .reading .now .starts .ok .0)
     (c .len-2 .ensures ∙ c .args .reading .now .faults .ok .0)
-    (c .in-Continue-push-str .ensures tt .bytes ∙ ap (λ b. string-bytes (c .in-Continue-out .out) ++ b) (c .as-str .ensures .value))
-    (c .in-Continue-push-str-2 .ensures tt .bytes ∙ ap (λ b. string-bytes (c .push-str .last .self) ++ b) (c .as-str-2 .ensures .value))
