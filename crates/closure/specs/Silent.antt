@@ -1,17 +1,22 @@
 -- Silent arcs among the stages, which are the numbers below 256, and the paths along them. Assumes nothing.
 use mathlib.Core.Path.{_≡_}
-use mathlib.Core.Bool.{Bool, true, not, _&&_, _||_}
-use mathlib.Core.List.{List, []}
+use mathlib.Core.Bool.{Bool, true, false, not, _&&_, _||_}
+use mathlib.Core.List.{List, map}
 use Prim.Native.Nat.{ℕ, suc, _<_}
 use lib.Dec.{eqb, ltb}
 use lib.ListN.{length, getD}
-use Rattle.sets.specs.FourWords.{inRow}
+use Rattle.sets.specs.BitRows.{members}
 use Rattle.sets.specs.declared.bit_row.BitRow.{BitRow}
 use Rattle.search.specs.Walks.{Tells}
+use Rattle.closure.specs.declared.silent_arcs.SilentArcs.{SilentArcs}
 
 -- whether an arc leads from stage u to stage v, where row u holds the stages that arcs from u lead to
 unfoldable pub arcIn : List BitRow → ℕ → ℕ → Bool
-arcIn rows u v = ltb u 256 && inRow (getD rows u (record { words = [] }) .words) v
+arcIn rows u v = (ltb u 256 && ltb v 256) && getD (map members rows) u (λ _. false) v
+
+-- the arcs that a value holds
+abbrev pub hasArc : SilentArcs → ℕ → ℕ → Bool
+hasArc arcs = arcIn (arcs .rows)
 
 -- the arcs with one more, from one stage to another, if both numbers are stages
 abbrev pub withArc : ℕ → ℕ → (ℕ → ℕ → Bool) → ℕ → ℕ → Bool

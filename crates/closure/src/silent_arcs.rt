@@ -2,12 +2,12 @@
 
 ghost use mathlib.Core.Path.{_≡_};
 ghost use mathlib.Core.Bool.{false, not, _&&_};
-ghost use Prim.Native.Nat.{ℕ};
+ghost use Prim.Native.Nat.{ℕ, _<_, _≤_};
 ghost use lib.Dec.{ltb};
 ghost use Rattle.closure.specs.Neighbours.{leads, neighboursIn, lawfulIn};
-ghost use Rattle.closure.specs.Silent.{arcIn, withArc, FewestArcs, reachedIn};
+ghost use Rattle.closure.specs.Silent.{arcIn, hasArc, withArc, FewestArcs, reachedIn};
 ghost use Rattle.std.specs.Results.{Cases};
-ghost use Rattle.sets.specs.FourWords.{inRow};
+ghost use Rattle.sets.specs.BitRows.{members};
 ghost use Rattle.search.specs.Walks.{Starting};
 use search::breadth_first::NO_DISTANCE;
 use search::breadth_first::SearchFault;
@@ -29,7 +29,7 @@ pub struct SilentArcs {
 
 /// The same row for every stage.
 fn repeated(row: BitRow) -> [BitRow; 256]
-    ensures { λ r. ⌜ ((u v : ℕ) → arcIn r u v ≡ (ltb u 256 && inRow (row .words) v)) ⌝ }
+    ensures { λ r. ⌜ ((u v : ℕ) → arcIn r u v ≡ ((ltb u 256 && ltb v 256) && members row v)) ⌝ }
 {
     [row; 256]
 }
@@ -37,7 +37,7 @@ fn repeated(row: BitRow) -> [BitRow; 256]
 impl SilentArcs {
     /// No arcs.
     pub fn new() -> SilentArcs
-        ensures { λ r. ⌜ ((u v : ℕ) → arcIn (r .rows) u v ≡ false) ⌝ }
+        ensures { λ r. ⌜ ((u v : ℕ) → hasArc r u v ≡ false) ⌝ }
     {
         SilentArcs {
             rows: repeated(BitRow::empty()),
@@ -46,7 +46,8 @@ impl SilentArcs {
 
     /// The row of a stage, which is empty for a number that is none.
     fn row(&self, from: u16) -> BitRow
-        ensures { λ r. ⌜ ((v : ℕ) → inRow (r .words) v ≡ arcIn (now (self .entry) .rows) from v) ⌝ }
+        ensures stages { λ r. ⌜ ((v : ℕ) → v < 256 → members r v ≡ hasArc (now (self .entry)) from v) ⌝ }
+        ensures beyond { λ _. ⌜ ((v : ℕ) → 256 ≤ v → hasArc (now (self .entry)) from v ≡ false) ⌝ }
     {
         if from < 256 {
             self.rows[from as usize]
@@ -57,9 +58,10 @@ impl SilentArcs {
 
     /// Whether an arc leads from the one stage to the other.
     pub fn contains(&self, from: u16, to: u16) -> bool
-        ensures { λ r. ⌜ r ≡ arcIn (now (self .entry) .rows) from to ⌝ }
+        ensures { λ r. ⌜ r ≡ hasArc (now (self .entry)) from to ⌝ }
     {
-        self.row(from).contains(to)
+        let row = self.row(from);
+        to < 256 && row.contains(to)
     }
 
     /// Where place `to` of a stage leads: to stage `to` if there is such an arc, and else back to the stage itself.
@@ -71,8 +73,8 @@ impl SilentArcs {
 
     /// Adds an arc if both numbers are stages, else nothing. Answers whether there is one more arc.
     pub fn insert(&mut self, from: u16, to: u16) -> bool
-        ensures arcs { λ _. ⌜ ((u v : ℕ) → arcIn (now (self .exit) .rows) u v ≡ withArc from to (arcIn (now (self .entry) .rows)) u v) ⌝ }
-        ensures grew { λ r. ⌜ r ≡ ((ltb from 256 && ltb to 256) && not (arcIn (now (self .entry) .rows) from to)) ⌝ }
+        ensures arcs { λ _. ⌜ ((u v : ℕ) → hasArc (now (self .exit)) u v ≡ withArc from to (hasArc (now (self .entry))) u v) ⌝ }
+        ensures grew { λ r. ⌜ r ≡ ((ltb from 256 && ltb to 256) && not (hasArc (now (self .entry)) from to)) ⌝ }
     {
         if from >= 256 {
             return false;
@@ -86,7 +88,7 @@ impl SilentArcs {
     /// The fewest silent arcs from a start to each stage, or `NO_DISTANCE` where no path leads. Declined just if a
     /// start is no stage.
     pub fn steps_from(&self, starts: &[u16]) -> Result<[u16; 256], SearchFault>
-        ensures { λ r. ⌜ Cases r (λ steps. Starting 256 (now (starts .entry)) × FewestArcs (arcIn (now (self .entry) .rows)) (now (starts .entry)) steps) (λ _. Starting 256 (now (starts .entry)) → ⊥) ⌝ }
+        ensures { λ r. ⌜ Cases r (λ steps. Starting 256 (now (starts .entry)) × FewestArcs (hasArc (now (self .entry))) (now (starts .entry)) steps) (λ _. Starting 256 (now (starts .entry)) → ⊥) ⌝ }
     {
         let mut steps = [NO_DISTANCE; 256];
         let mut queue = [0; 256];
@@ -119,7 +121,7 @@ pub impl Graph for SilentArcs as SilentArcsGraph {
 
 /// The stages that a path leads to, by what `steps_from` answers.
 pub fn reached(steps: &[u16; 256]) -> BitRow
-    ensures { λ r. ⌜ ((v : ℕ) → inRow (r .words) v ≡ reachedIn (now (steps .entry)) v) ⌝ }
+    ensures { λ r. ⌜ ((v : ℕ) → members r v ≡ reachedIn (now (steps .entry)) v) ⌝ }
 {
     let mut stages = BitRow::empty();
     for stage in 0..256 {

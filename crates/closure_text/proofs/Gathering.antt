@@ -6,13 +6,13 @@ use Prim.Native.Nat.{ℕ}
 use Rattle.std.specs.Of.Vec.{vec-items}
 use Rattle.text.specs.Split.{Told}
 use Rattle.closure_text.specs.declared.reading.Reading.{Reading}
-use Rattle.closure.specs.Silent.{arcIn}
+use Rattle.closure.specs.Silent.{hasArc}
 use Rattle.closure_text.specs.Lines.{requestOf}
 use Rattle.closure_text.specs.Readings.{startsIn, arcGiven, faultsIn, startsOf, arcsOf, faultsOf, Added}
 
 -- what is read, with what the lines that are left ask for, is what all ask for
 pub record Begun (all rest : List Told) (r : Reading) : Type 0 where
-  pub arcs : (u v : ℕ) → (arcIn (r .arcs .rows) u v || arcsOf rest u v) ≡ arcsOf all u v
+  pub arcs : (u v : ℕ) → (hasArc (r .arcs) u v || arcsOf rest u v) ≡ arcsOf all u v
   pub starts : vec-items (r .starts) ++ startsOf rest ≡ startsOf all
   pub faults : vec-items (r .faults) ++ faultsOf rest ≡ faultsOf all
 
@@ -20,7 +20,7 @@ pub record Begun (all rest : List Told) (r : Reading) : Type 0 where
 pub begun-more : (all rest : List Told) (l : Told) (old new : Reading) → Begun all (l ∷ rest) old → Added (requestOf l) old new → Begun all rest new
 begun-more all rest l old new b a =
     record {
-      arcs = λ u v. ap (λ (t : Bool). t || arcsOf rest u v) (a .arcs u v) ∙ or-assoc (arcIn (old .arcs .rows) u v) (arcGiven (requestOf l) u v) (arcsOf rest u v) ∙ b .arcs u v;
+      arcs = λ u v. ap (λ (t : Bool). t || arcsOf rest u v) (a .arcs u v) ∙ or-assoc (hasArc (old .arcs) u v) (arcGiven (requestOf l) u v) (arcsOf rest u v) ∙ b .arcs u v;
       starts = ap (λ xs. xs ++ startsOf rest) (a .starts) ∙ append-assoc (vec-items (old .starts)) (startsIn (requestOf l)) (startsOf rest) ∙ b .starts;
       faults = ap (λ xs. xs ++ faultsOf rest) (a .faults) ∙ append-assoc (vec-items (old .faults)) (faultsIn (requestOf l)) (faultsOf rest) ∙ b .faults;
     }

@@ -13,7 +13,7 @@ use Rattle.sets.specs.Members.{size}
 use Rattle.text.specs.Split.{lines}
 use Rattle.closure_text.specs.declared.line.LineFault.{LineFault}
 use Rattle.closure_text.specs.declared.reading.Reading.{Reading}
-use Rattle.closure.specs.Silent.{arcIn, reachedIn, FewestArcs}
+use Rattle.closure.specs.Silent.{hasArc, reachedIn, FewestArcs}
 use Rattle.closure_text.specs.Readings.{arcsOf, Reads}
 use Rattle.closure_text.specs.Reports.{faultLine, stageLine, stageLines, countLine, answerOf, Responds}
 
@@ -65,11 +65,11 @@ same-arcs : (f g : ℕ → ℕ → Bool) → ((u v : ℕ) → f u v ≡ g u v) �
 same-arcs f g h i u v = h u v i
 
 -- what is answered from a reading is answered to its input
-pub responds : (input answer : List ℕ) (r : Reading) (steps : List ℕ) → Reads (lines input) r → length steps ≡ 256 → FewestArcs (arcIn (r .arcs .rows)) (vec-items (r .starts)) steps → answer ≡ answerOf (vec-items (r .faults)) (vec-items (r .starts)) steps → Responds input answer
+pub responds : (input answer : List ℕ) (r : Reading) (steps : List ℕ) → Reads (lines input) r → length steps ≡ 256 → FewestArcs (hasArc (r .arcs)) (vec-items (r .starts)) steps → answer ≡ answerOf (vec-items (r .faults)) (vec-items (r .starts)) steps → Responds input answer
 responds input answer r steps reads all fewest text =
     record {
       steps = steps;
       all = all;
-      fewest = subst₂ (λ (arc : ℕ → ℕ → Bool) (starts : List ℕ). FewestArcs arc starts steps) (same-arcs (arcIn (r .arcs .rows)) (arcsOf (lines input)) (reads .arcs)) (reads .starts) fewest;
+      fewest = subst₂ (λ (arc : ℕ → ℕ → Bool) (starts : List ℕ). FewestArcs arc starts steps) (same-arcs (hasArc (r .arcs)) (arcsOf (lines input)) (reads .arcs)) (reads .starts) fewest;
       text = text ∙ ap₂ (λ (faults : List LineFault) (starts : List ℕ). answerOf faults starts steps) (reads .faults) (reads .starts);
     }

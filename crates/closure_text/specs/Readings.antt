@@ -12,7 +12,7 @@ use Rattle.closure_text.specs.declared.line.Request.{Request}
 use Rattle.closure_text.specs.declared.line.Request.the-variants.{Nothing, Start, Arc}
 use Rattle.closure_text.specs.declared.line.LineFault.{LineFault}
 use Rattle.closure_text.specs.declared.reading.Reading.{Reading}
-use Rattle.closure.specs.Silent.{arcIn}
+use Rattle.closure.specs.Silent.{hasArc}
 use Rattle.closure_text.specs.Lines.{requestOf}
 
 -- the start that a line gives, if any
@@ -22,7 +22,7 @@ startsIn (Ok (Start s)) = s ∷ []
 startsIn (Ok (Arc a b)) = []
 startsIn (Err e) = []
 
--- whether a line gives the arc from u to v
+-- whether a line gives the arc from u to v; a line that is read gives none but stages
 abbrev pub arcGiven : Result Request LineFault → ℕ → ℕ → Bool
 arcGiven (Ok Nothing) u v = false
 arcGiven (Ok (Start s)) u v = false
@@ -51,18 +51,18 @@ faultsOf (l ∷ ls) = faultsIn (requestOf l) ++ faultsOf ls
 
 -- nothing is read yet
 pub record Blank (r : Reading) : Type 0 where
-  pub arcs : (u v : ℕ) → arcIn (r .arcs .rows) u v ≡ false
+  pub arcs : (u v : ℕ) → hasArc (r .arcs) u v ≡ false
   pub starts : vec-items (r .starts) ≡ []
   pub faults : vec-items (r .faults) ≡ []
 
 -- one more line is read
 pub record Added (answer : Result Request LineFault) (old new : Reading) : Type 0 where
-  pub arcs : (u v : ℕ) → arcIn (new .arcs .rows) u v ≡ (arcIn (old .arcs .rows) u v || arcGiven answer u v)
+  pub arcs : (u v : ℕ) → hasArc (new .arcs) u v ≡ (hasArc (old .arcs) u v || arcGiven answer u v)
   pub starts : vec-items (new .starts) ≡ vec-items (old .starts) ++ startsIn answer
   pub faults : vec-items (new .faults) ≡ vec-items (old .faults) ++ faultsIn answer
 
 -- what was read of these lines
 pub record Reads (ls : List Told) (r : Reading) : Type 0 where
-  pub arcs : (u v : ℕ) → arcIn (r .arcs .rows) u v ≡ arcsOf ls u v
+  pub arcs : (u v : ℕ) → hasArc (r .arcs) u v ≡ arcsOf ls u v
   pub starts : vec-items (r .starts) ≡ startsOf ls
   pub faults : vec-items (r .faults) ≡ faultsOf ls

@@ -15,7 +15,7 @@ use Rattle.std.proofs.shelf.Tests.{lt-ltb, le-ltb, le-leb, lt-leb, ltb-true, le
 use Rattle.std.proofs.shelf.Ways.{tells, decides-below-or, decides-below-and, decides-eqb}
 use Rattle.sets.specs.Members.{one, size, SameMembers, FirstFrom}
 use Rattle.sets.specs.AscendingLists.{Ascending, lowest, inOrder, allInOrder, passes, among, inRecord}
-use Rattle.sets.proofs.Bits.{size-alike}
+use Rattle.sets.proofs.Sizes.{size-alike}
 
 -- ---- the members
 

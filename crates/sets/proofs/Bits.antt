@@ -2,8 +2,8 @@
 use mathlib.Core.Path.{_≡_, refl, sym, ap, ap₂, _∙_}
 use mathlib.Core.Bool.{Bool, true, false, _||_}
 use mathlib.Core.Logic.{_⊎_, inl, inr, ⊎-elim}
-use Prim.Native.Nat.{ℕ, zero, suc, _+_, _-_, _*_, _/_, _%_, _^_, _≤_, _<_}
-use native.Mathlib.Nat.{pow-suc, div-one, add-suc}
+use Prim.Native.Nat.{ℕ, zero, suc, _+_, _-_, _*_, _/_, _%_, _^_, _<_}
+use native.Mathlib.Nat.{pow-suc, div-one}
 use native.Mathlib.Numerals.{one-add}
 use native.Mathlib.Omega.{arith}
 use lib.Dec.{eqb}
@@ -14,6 +14,7 @@ use Rattle.std.proofs.shelf.Tests.{cases-eq}
 use Rattle.std.proofs.shelf.Ways.{tells}
 use Rattle.sets.specs.Members.{one, size}
 use Rattle.sets.specs.FourWords.{bit}
+use Rattle.sets.proofs.Sizes.{size-alike, size-first}
 
 -- a test of the lowest bit
 abbrev pub odd : ℕ → Bool
@@ -76,35 +77,7 @@ same-bits (suc k) u v p q h =
     let high : u / 2 ≡ v / 2 = same-bits k (u / 2) (v / 2) (half-lt u k p) (half-lt v k q) (λ j l. sym (bit-suc u j) ∙ h (suc j) (omega arith) ∙ bit-suc v j) in
     omega arith
 
--- ---- how many
-
-pub size-alike : (n : ℕ) (p q : ℕ → Bool) → ((k : ℕ) → k < n → p k ≡ q k) → size n p ≡ size n q
-unfolding size
-size-alike zero p q h = refl
-size-alike (suc n) p q h = ap₂ (λ (x y : ℕ). x + y) (size-alike n p q (λ k l. h k (omega arith))) (ap one (h n (omega arith)))
-
-pub size-add : (a b : ℕ) (p : ℕ → Bool) → size (a + b) p ≡ size a p + size b (λ k. p (a + k))
-unfolding size
-size-add a zero p = rw (native.Mathlib.Nat.add-zero a) (omega arith)
-size-add a (suc b) p = rw add-suc (let h = size-add a b p in omega arith)
-
-pub size-zero : (p : ℕ → Bool) → size 0 p ≡ 0
-unfolding size
-size-zero p = refl
-
-one-le : (b : Bool) → one b ≤ 1
-one-le true = omega arith
-one-le false = omega arith
-
-pub size-le : (n : ℕ) (p : ℕ → Bool) → size n p ≤ n
-unfolding size
-size-le zero p = omega arith
-size-le (suc n) p = omega (arith, size-le n p, one-le (p n))
-
-pub size-first : (n : ℕ) (p : ℕ → Bool) → size (suc n) p ≡ one (p 0) + size n (λ k. p (suc k))
-unfolding size
-size-first zero p = omega arith
-size-first (suc n) p = let h = size-first n p in omega arith
+-- ---- how many bits are set
 
 odd-one : (w : ℕ) → w % 2 ≡ one (odd w)
 odd-one w = ⊎-elim (λ (p : w % 2 ≡ 0). rw p) (λ (p : w % 2 ≡ 1). rw p) (odd-cases w)

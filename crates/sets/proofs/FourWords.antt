@@ -17,7 +17,8 @@ use Rattle.std.proofs.shelf.Ways.{tells}
 use Rattle.std.proofs.shelf.Bits.{one-shl, div-mul-add, mod-mul-add}
 use Rattle.sets.specs.Members.{size, withMember, SameMembers}
 use Rattle.sets.specs.FourWords.{bit, inRow}
-use Rattle.sets.proofs.Bits.{bit-or, bit-pow, bit-shr, bit-zero, same-bits, size-add, size-alike, ones-size, trailing-first, fromBits, from-bits}
+use Rattle.sets.proofs.Bits.{bit-or, bit-pow, bit-shr, bit-zero, same-bits, ones-size, trailing-first, fromBits, from-bits}
+use Rattle.sets.proofs.Sizes.{size-add, size-alike}
 
 pub row-in : (ws : List ℕ) (n : ℕ) → n < 256 → inRow ws n ≡ bit (getD ws (n / 64) 0) (n % 64)
 unfolding inRow

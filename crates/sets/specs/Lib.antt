@@ -1,3 +1,4 @@
 pub mod Members
 pub mod FourWords
+pub mod BitRows
 pub mod AscendingLists

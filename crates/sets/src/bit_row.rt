@@ -1,6 +1,6 @@
 //! A set of numbers below 256 as a row of bits.
 
-ghost use Rattle.sets.specs.FourWords.{inRow};
+ghost use Rattle.sets.specs.BitRows.{members};
 use crate::four_words;
 use crate::small_set::SmallSet;
 
@@ -15,7 +15,7 @@ pub impl SmallSet for BitRow as BitRowSet {
 
     ghost W = { 256 };
 
-    ghost has = { λ s n. inRow (s .words) n };
+    ghost has = { members };
 
     fn width() -> u16 {
         Self::W

@@ -3,7 +3,7 @@ use native.Mathlib.Omega.{arith}
 use Rattle.std.proofs.shelf.Results.{made-weaker}
 use Rattle.search.specs.Walks.{Starting}
 use Rattle.text.specs.Split.{lines}
-use Rattle.closure.specs.Silent.{arcIn, FewestArcs}
+use Rattle.closure.specs.Silent.{hasArc, FewestArcs}
 use Rattle.closure_text.proofs.Starts.{starts-are-stages}
 use Rattle.closure_text.proofs.Writing.{responds}
 use Rattle.closure_text.proofs.report.respond.Needs as need
@@ -18,5 +18,5 @@ returns c =
     let reading = c .in-Continue-reading .reading in
     made-weaker (c .answer .result) _ _
     (λ s e. responds (c .args .input .now) _ reading (c .in-Ok .steps) (c .in-Continue-reading .ensures tt) (omega arith)
-    (subst (λ starts. FewestArcs (arcIn (reading .arcs .rows)) starts (c .in-Ok .steps)) (c .as-slice .ensures .value) (c .in-Ok .ensures tt .1)) e)
+    (subst (λ starts. FewestArcs (hasArc (reading .arcs)) starts (c .in-Ok .steps)) (c .as-slice .ensures .value) (c .in-Ok .ensures tt .1)) e)
     (c .answer .ensures)

@@ -4,7 +4,7 @@ use native.Mathlib.Omega.{arith}
 use lib.Count.{ones, ones-le}
 use lib.ListN.{getD}
 use Rattle.sets.specs.FourWords.{inRow}
-use Rattle.sets.proofs.Bits.{size-zero, size-le}
+use Rattle.sets.proofs.Sizes.{size-zero, size-le}
 use Rattle.sets.proofs.FourWords.{row-count-more}
 use Rattle.sets.proofs.four_words.ones.Needs as need
 
