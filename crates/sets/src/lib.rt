@@ -3,6 +3,8 @@
 //! This crate knows nothing of what the numbers stand for. Code above it is written over any `SmallSet` and proved
 //! from the trait's contracts alone.
 
+#![tactic(auto)]
+
 mod ascending_list;
 pub mod bit_row;
 mod four_words;

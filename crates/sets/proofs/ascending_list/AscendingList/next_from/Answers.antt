@@ -4,5 +4,5 @@ use Rattle.sets.proofs.ascending_list.AscendingList.next_from.Goals as goal
 
 pub returns-else-n-lt64 : goal.returns-else-n-lt64
 returns-else-n-lt64 c =
-    first_all (among c.args.self.now.items c.args.self.now.len) c.args.from c.first-from-n.result c.first-from-n.ensures c.if-n-lt64.false
+    first_all (among c.args.self.now.items c.args.self.now.len) c.args.from c.first_from-n.result c.first_from-n.ensures c.if-n-lt64.false
     (among_below c.args.self.now.items c.args.self.now.len c.args.self.now.ascends)

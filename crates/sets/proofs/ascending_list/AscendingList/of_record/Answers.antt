@@ -9,4 +9,4 @@ pub invariant-of-result : goal.invariant-of-result
 invariant-of-result c = (passes_ascending c.args.record.now.len c.args.record.now.items (sym c.if-not-passes-check.ensures.test), tt)
 
 pub returns : goal.returns
-returns c = λ n. sym (record_passes c.args.record.now.len c.args.record.now.items (sym c.if-not-passes-check.ensures.test) n)
+returns c = λ n. sym (record_passes c.args.record.now.len c.args.record.now.items (sym c.if-not-passes_check.ensures.test) n)

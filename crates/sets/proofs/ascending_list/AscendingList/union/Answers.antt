@@ -6,7 +6,7 @@ use Rattle.sets.proofs.ascending_list.AscendingList.union.Goals as goal
 
 pub appended-out-requires : goal.appended-out-requires
 appended-out-requires c =
-    let f = first_or (among c.args.self.now.items c.args.self.now.len) (among c.args.other.now.items c.args.other.now.len) c.loop-from.from c.first-from-a.result c.first-from-b.result c.min-n.result c.first-from-a.ensures c.first-from-b.ensures c.min-n.ensures in
+    let f = first_or (among c.args.self.now.items c.args.self.now.len) (among c.args.other.now.items c.args.other.now.len) c.loop-from.from c.first_from-a.result c.first_from-b.result c.min-n.result c.first_from-a.ensures c.first_from-b.ensures c.min-n.ensures in
     record {
       small = c.if-n-ge64.false;
       above = λ k h. let l = ltb-true k c.loop-from.from (and_parts _ _ (sym (c.loop-from.invariant.1 k) ∙ h)).0 in omega (arith, (f.1 c.if-n-ge64.false).0);
@@ -14,7 +14,7 @@ appended-out-requires c =
 
 pub loop-from-preserved : goal.loop-from-preserved
 loop-from-preserved c =
-    let f = first_or (among c.args.self.now.items c.args.self.now.len) (among c.args.other.now.items c.args.other.now.len) c.loop-from.from c.first-from-a.result c.first-from-b.result c.min-n.result c.first-from-a.ensures c.first-from-b.ensures c.min-n.ensures in (
+    let f = first_or (among c.args.self.now.items c.args.self.now.len) (among c.args.other.now.items c.args.other.now.len) c.loop-from.from c.first_from-a.result c.first_from-b.result c.min-n.result c.first_from-a.ensures c.first_from-b.ensures c.min-n.ensures in (
       omega arith,
       merge_step (λ k. among c.args.self.now.items c.args.self.now.len k || among c.args.other.now.items c.args.other.now.len k)
           (among c.loop-from.out.items c.loop-from.out.len) (among c.appended-out.result.items c.appended-out.result.len)
@@ -31,7 +31,7 @@ returns-after-loop-from c =
 
 pub returns-then-n-ge64 : goal.returns-then-n-ge64
 returns-then-n-ge64 c =
-    let f = first_or (among c.args.self.now.items c.args.self.now.len) (among c.args.other.now.items c.args.other.now.len) c.loop-from.from c.first-from-a.result c.first-from-b.result c.min-n.result c.first-from-a.ensures c.first-from-b.ensures c.min-n.ensures in
+    let f = first_or (among c.args.self.now.items c.args.self.now.len) (among c.args.other.now.items c.args.other.now.len) c.loop-from.from c.first_from-a.result c.first_from-b.result c.min-n.result c.first_from-a.ensures c.first_from-b.ensures c.min-n.ensures in
     merge_all (λ k. among c.args.self.now.items c.args.self.now.len k || among c.args.other.now.items c.args.other.now.len k)
     (among c.loop-from.out.items c.loop-from.out.len) c.loop-from.from c.loop-from.invariant.1
     (first_all _ c.loop-from.from c.min-n.result f c.if-n-ge64.true
