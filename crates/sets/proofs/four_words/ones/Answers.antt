@@ -8,11 +8,11 @@ use Rattle.sets.proofs.four_words.ones.Goals as goal
 pub loop-word-init : goal.loop-word-init
 loop-word-init c = sym (size_zero (in_row c.args.words.now))
 
-pub overflow-cast-total : goal.overflow-cast-total
-overflow-cast-total c = omega (arith, ones-le 64 (get_or c.args.words.now c.loop-word.word-index 0) (omega arith))
+pub overflow_cast-total : goal.overflow_cast-total
+overflow_cast-total c = omega (arith, ones-le 64 (get_or c.args.words.now c.loop-word.word-index 0) (omega arith))
 
-pub overflow-add-total : goal.overflow-add-total
-overflow-add-total c =
+pub overflow_add-total : goal.overflow_add-total
+overflow_add-total c =
     omega (arith, size_le (c.loop-word.word-index * 64) (in_row c.args.words.now), ones-le 64 (get_or c.args.words.now c.loop-word.word-index 0) (omega arith))
 
 pub loop-word-preserved : goal.loop-word-preserved

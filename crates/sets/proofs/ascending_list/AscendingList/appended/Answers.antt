@@ -5,10 +5,10 @@ use Rattle.sets.proofs.ascending_list.AscendingList.appended.Goals as goal
 pub bounds-items-self : goal.bounds-items-self
 bounds-items-self c = let h = push_room c.args.self.items c.args.self.len c.args.n c.args.self.ascends c.requires.small c.requires.above in omega arith
 
-pub invariant-of-result : goal.invariant-of-result
-invariant-of-result c =
+pub invariant_of-result : goal.invariant_of-result
+invariant_of-result c =
     let h = push_room c.args.self.items c.args.self.len c.args.n c.args.self.ascends c.requires.small c.requires.above in
-    (push_ascends c.args.self.items c.args.self.len c.args.n (omega arith) c.args.self.ascends c.requires.small c.requires.above, tt)
+    record { ascends = push_ascends c.args.self.items c.args.self.len c.args.n (omega arith) c.args.self.ascends c.requires.small c.requires.above }
 
 pub returns : goal.returns
 returns c =
