@@ -8,4 +8,4 @@ pub loop-line-preserved : goal.loop-line-preserved
 loop-line-preserved c =
     begun_more (lines c.args.input.now) (left c.next.new.self) (told c.in-Some.line) c.loop-line.reading c.add.new.self
     (subst (λ ls. Begun (lines c.args.input.now) ls c.loop-line.reading) (sym c.in-Some.ensures) c.loop-line.invariant)
-    (subst (λ a. Added a c.loop-line.reading c.add.new.self) c.read-line.ensures c.in-ok-add.ensures)
+    (subst (λ a. Added a c.loop-line.reading c.add.new.self) c.read_line.ensures c.in_ok-add.ensures)

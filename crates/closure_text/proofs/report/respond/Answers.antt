@@ -9,13 +9,13 @@ use Rattle.closure_text.proofs.report.respond.Goals as goal
 
 pub unreachable-requires : goal.unreachable-requires
 unreachable-requires c =
-    c.in-default.ensures
-    (subst (Starting 256) (sym (c.as-slice.ensures.value ∙ c.in-ok-reading.ensures.starts)) (starts_are_stages (lines c.args.input.now)))
+    c.in_default.ensures
+    (subst (Starting 256) (sym (c.as_slice.ensures.value ∙ c.in_ok-reading.ensures.starts)) (starts_are_stages (lines c.args.input.now)))
 
 pub returns : goal.returns
 returns c =
-    let reading = c.in-ok-reading.reading in
+    let reading = c.in_ok-reading.reading in
     IfOk-weaker c.answer.result _ _
-    (λ s e. responds c.args.input.now _ reading c.in-Ok.steps c.in-ok-reading.ensures (omega arith)
-    (subst (λ starts. FewestArcs (has_arc reading.arcs) starts c.in-Ok.steps) c.as-slice.ensures.value c.in-Ok.ensures.1) e)
+    (λ s e. responds c.args.input.now _ reading c.in-Ok.steps c.in_ok-reading.ensures (omega arith)
+    (subst (λ starts. FewestArcs (has_arc reading.arcs) starts c.in-Ok.steps) c.as_slice.ensures.value c.in-Ok.ensures.1) e)
     c.answer.ensures

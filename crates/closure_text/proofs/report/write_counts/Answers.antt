@@ -3,4 +3,4 @@ use Rattle.closure_text.proofs.report.write_counts.Goals as goal
 
 pub returns : goal.returns
 returns c =
-    c.in-ok-push-str.ensures.bytes ∙ ap (λ b. string_bytes c.args.out.now ++ b) (c.as-str.ensures.value ∙ c.in-ok-text.ensures.ok)
+    c.in_ok-push_str.ensures.bytes ∙ ap (λ b. string_bytes c.args.out.now ++ b) (c.as_str.ensures.value ∙ c.in_ok-text.ensures.ok)
