@@ -94,8 +94,8 @@ fn visit<G: Graph>(
     head: usize,
     mut tail: usize,
 ) -> usize
-    requires { (nodes graph.now ≡ length distance.old) × (Visiting distance.old work.old head tail) }
-    ensures { Visited (neighbours graph.now) (slice_index work.old head) (at distance.old work.old head + 1) (length (neighbours graph.now (slice_index work.old head))) distance.old work.old tail distance.new work.new result }
+    requires { (G.nodes graph.now ≡ length distance.old) × (Visiting distance.old work.old head tail) }
+    ensures { Visited (G.neighbours graph.now) (slice_index work.old head) (at distance.old work.old head + 1) (length (G.neighbours graph.now (slice_index work.old head))) distance.old work.old tail distance.new work.new result }
 {
     let node = work[head];
     let far = distance[node as usize] + 1;
@@ -109,8 +109,8 @@ fn visit<G: Graph>(
 
 /// Gives each node its distance.
 fn explore<G: Graph>(graph: &G, starts: &[u16], distance: &mut [u16], work: &mut [u16])
-    requires { (nodes graph.now ≡ length distance.old) × (Fit (length distance.old) starts.now distance.old work.old) }
-    ensures { (v : ℕ) → v < length distance.old → Tells (From (neighbours graph.now) starts.now v) (slice_index distance.new v) }
+    requires { (G.nodes graph.now ≡ length distance.old) × (Fit (length distance.old) starts.now distance.old work.old) }
+    ensures { (v : ℕ) → v < length distance.old → Tells (From (G.neighbours graph.now) starts.now v) (slice_index distance.new v) }
 {
     let mut tail = begin(starts, distance, work);
     let mut head = 0;
@@ -130,7 +130,7 @@ pub fn search<G: Graph>(
     distance: &mut [u16],
     work: &mut [u16],
 ) -> Result<(), SearchFault>
-    ensures { Answered (nodes graph.now) (neighbours graph.now) starts.now distance.old work.old distance.new work.new result }
+    ensures { Answered (G.nodes graph.now) (G.neighbours graph.now) starts.now distance.old work.old distance.new work.new result }
 {
     let nodes = graph.node_count();
     let count = nodes as usize;

@@ -12,8 +12,7 @@ pub trait Graph {
     /// The neighbours of a node, in the order of their places.
     ghost neighbours: { Self → ℕ → List ℕ };
 
-    /// The bounds above, which every `impl` proves of each of its values. A ghost member stands in for laws, since a
-    /// trait with a `law` can have no `impl` with a lifetime.
+    /// The bounds above, which every `impl` proves of each of its values.
     ghost lawful: { (g : Self) → Lawful (nodes g) (neighbours g) };
 
     /// The number of nodes.

@@ -2,5 +2,7 @@
 //!
 //! This crate knows nothing of what the nodes and arcs stand for.
 
+#![tactic(auto)]
+
 pub mod breadth_first;
 pub mod graph;

@@ -3,8 +3,8 @@ use Rattle.search.proofs.Steps.{going_none, going_more}
 use Rattle.search.proofs.Ends.{tells}
 use Rattle.search.proofs.breadth_first.explore.Goals as goal
 
-pub overflow-add-head : goal.overflow-add-head
-overflow-add-head g c = omega (arith, c.loop-head-test.true, c.loop-head.invariant.queue.room, c.loop-head.invariant.queue.small)
+pub overflow_add-head : goal.overflow_add-head
+overflow_add-head g c = omega (arith, c.loop-head-test.true, c.loop-head.invariant.queue.room, c.loop-head.invariant.queue.small)
 
 pub loop-head-init : goal.loop-head-init
 loop-head-init g c =

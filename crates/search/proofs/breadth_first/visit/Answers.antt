@@ -9,8 +9,8 @@ see-tail-requires g c =
     let a = answered (g.G.Graph.lawful c.args.graph.now) c.args.distance.now c.args.work.now c.args.head c.args.tail c.requires.0 c.requires.1 c.loop-neighbour.place c.in-Some.neighbour c.in-Some.ensures in
     (omega (arith, c.requires.0, a.node, c.loop-neighbour.auto.distance), c.loop-neighbour.invariant.queue)
 
-pub overflow-add-place : goal.overflow-add-place
-overflow-add-place g c =
+pub overflow_add-place : goal.overflow_add-place
+overflow_add-place g c =
     let a = answered (g.G.Graph.lawful c.args.graph.now) c.args.distance.now c.args.work.now c.args.head c.args.tail c.requires.0 c.requires.1 c.loop-neighbour.place c.in-Some.neighbour c.in-Some.ensures in
     omega (arith, a.early)
 
@@ -32,4 +32,4 @@ loop-neighbour-preserved g c =
 pub returns : goal.returns
 returns g c =
     let nbr = g.G.Graph.neighbours c.args.graph.now in
-    visited_all (nth_none (nbr (get_or c.args.work.now c.args.head 0)) c.loop-neighbour.place c.in-default.ensures) c.loop-neighbour.invariant
+    visited_all (nth_none (nbr (get_or c.args.work.now c.args.head 0)) c.loop-neighbour.place c.in_default.ensures) c.loop-neighbour.invariant
