@@ -1,4 +1,4 @@
--- Every book record means a well_formed book.
+-- Every book record means a well-formed book.
 use Rattle.std.proofs.Common.{◌≡◌, ℕ, ◌≤◌, true, get_or, ap, ◌∙◌, arith}
 use Rattle.std.proofs.lemmas.Bool.{leb-true, and_parts}
 use Rattle.rules.specs.Rules.{WellFormed}

@@ -1,4 +1,4 @@
--- What the conditions on a change mean of a well_formed book, and that the book stays well formed.
+-- What the conditions on a change mean of a well-formed book, and that the book stays well formed.
 use Rattle.std.proofs.Common.{◌≡◌, ℕ, suc, ◌<◌, ◌≤◌, Bool, true, false, cond, not, ◌&&◌, ◌||◌, eqb, ltb, ◌⊎◌, Some, None, Option, sym, refl, ap, ◌∙◌, subst, inl, inr, arith}
 use Rattle.std.proofs.lemmas.Bool.{false≢true, both_ways, eqb-true, eqb-false, ne_eqb, ltb-true, ltb-false, lt-ltb, not-false, and_parts, and_from, or_cases, or_parts}
 use Rattle.rules.specs.declared.change.Change.{Change}

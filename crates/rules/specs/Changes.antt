@@ -131,7 +131,7 @@ Allowed W b (Arc m e n) = Ends W b m e n × (b.arc m e n ≡ false) × (standing
 Allowed W b (Cut m e n) = Ends W b m e n × (b.arc m e n ≡ true)
 Allowed W b (Mark n m) = (n < W) × (m ≤ 7) × (b.live n ≡ true)
 
--- What the conditions mean of a well_formed book.
+-- What the conditions mean of a well-formed book.
 pub record Conditions (W : ℕ) (b : Rules) : Type 0 where
   -- `standing` is the number of arcs;
   pub counts : Counts (ℕ × ℕ × ℕ) (λ a. b.arc a.0 a.1 a.2 ≡ true) (standing b)

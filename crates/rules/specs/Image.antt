@@ -81,7 +81,7 @@ pub record ImageLaws : Type 0 where
   -- Rows that stand in turn make the image.
   pub turn_image : (rules : Rules) (t : Table) (top N : ℕ) (from by : ℕ → ℕ) → N ≤ 4096 → Highest rules top → InTurn rules t N from by →
       Image rules (bytes (image_bits rules top N t))
-  -- The images of two well_formed books, perhaps of different widths, are equal exactly if the books tell the same.
+  -- The images of two well-formed books, perhaps of different widths, are equal exactly if the books tell the same.
   pub equal_images : (V W : ℕ) (a b : Rules) (x y : List ℕ) → V ≤ 256 → W ≤ 256 → WellFormed V a → WellFormed W b → Image a x → Image b y →
       (x ≡ y) ↔ TellsSame a b
   -- The bits of every image stand at these places.

@@ -1,6 +1,7 @@
 //! Rule books: what they say, the changes that they take, and what is proved of their follow tables,
 //! images and reports. A rule book is a nondeterministic automaton with silent arcs; its follow table is
 //! its subset construction.
+#![tactic(auto)]
 
 mod change;
 mod theorems;
