@@ -1,6 +1,8 @@
 //! The text of a season: the number of events on the first line, and then sheets, each the lines before a
 //! line `end`. Lines after the last line `end` belong to no sheet.
 
+#![tactic(auto)]
+
 ghost use Rattle.std.specs.Prelude.{◌≡◌, ◌≤◌, [], ◌∷◌, length, IfSome, codes, MatchOption};
 ghost use Rattle.std.specs.Str.{bytes_eq};
 ghost use Rattle.text.specs.Split.{lines};
@@ -91,7 +93,7 @@ fn end_line(text: &[u8]) -> Option<usize>
 fn is_end(line: &[u8]) -> bool
     ensures { result ≡ bytes_eq line.now (codes "end") }
 {
-    line == b"end"
+    line == b"end".as_slice()
 }
 
 #[cfg(test)]

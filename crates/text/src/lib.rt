@@ -1,6 +1,8 @@
 //! The lines and words of a text of bytes, each with its place, and the numbers that words write.
 //! What the words mean is for the caller to say.
 
+#![tactic(auto)]
+
 ghost use Rattle.std.specs.Prelude.{◌≡◌, ◌+◌, ◌-◌, ◌*◌, ◌^◌, ◌<◌, ◌≤◌, true, [], ◌∷◌, length, drop, IfSome, MatchOption};
 ghost use Rattle.text.specs.Split.{part_length, parts, words, lines, told, left, Whole, Placed};
 ghost use Rattle.text.specs.Numbers.{digit_of, number_of, NumberWords};
