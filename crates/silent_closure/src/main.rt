@@ -1,6 +1,8 @@
 //! Reads silent arcs and start stages from standard input, a line each, and prints which stages are reached by silent
 //! arcs alone. `closure_text::report::respond` does the work, and its contract gives what is printed.
 
+#![tactic(auto)]
+
 use closure_text::report::respond;
 use std::io;
 use std::io::Read;
