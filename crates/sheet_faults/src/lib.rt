@@ -1,5 +1,7 @@
 //! Why a sheet is refused. Each fault holds its whole cause, and tells a number, a layer and a place.
 
+#![tactic(auto)]
+
 ghost use Rattle.std.specs.Prelude.{◌≡◌};
 ghost use Rattle.sheet_faults.specs.declared.LineFault.TheVariants.{Word as InWord};
 ghost use Rattle.sheet_faults.specs.declared.SheetFault.TheVariants.{Line as InLine, Book as InBook};
