@@ -1,4 +1,5 @@
 //! The record of a rule book, and its five changes.
+#![tactic(auto)]
 
 mod changes;
 mod questions;

@@ -2,8 +2,8 @@ use Rattle.std.proofs.Common.{refl}
 use Rattle.book.proofs.BookWrites.{consistent_fresh, fresh_meant}
 use Rattle.book.proofs.record.Book.begun.Goals as goal
 
-pub invariant-of-result : goal.invariant-of-result
-invariant-of-result c = (consistent_fresh c.args.events _ _ _ c.requires.0 c.requires.1 refl refl refl, tt)
+pub invariant_of-result : goal.invariant_of-result
+invariant_of-result c = record { consistent = consistent_fresh c.args.events _ _ _ c.requires.0 c.requires.1 refl refl refl }
 
 pub returns : goal.returns
 returns c = fresh_meant c.args.events _ _ _ refl refl refl
