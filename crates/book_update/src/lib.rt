@@ -1,5 +1,7 @@
 //! A sheet applied to a rule book: all of its changes are made, or none.
 
+#![tactic(auto)]
+
 ghost use Rattle.std.specs.Prelude.{◌≡◌, min, Ok, Err, MatchResult};
 ghost use Rattle.book.specs.Records.{rules_of};
 ghost use Rattle.book_update.specs.Updates.{applied, SheetPost};

@@ -2,6 +2,8 @@
 //! book takes it, and at the end the book that results. `season::respond` does the work, and its contract gives what is
 //! printed.
 
+#![tactic(auto)]
+
 use season::respond;
 use std::io;
 use std::io::Read;

@@ -1,5 +1,7 @@
 //! A season's sheets, checked one after the other against the rule book that they leave.
 
+#![tactic(auto)]
+
 ghost use Rattle.std.specs.Prelude.{◌≡◌, IfOk, string_bytes, codes, OnOk};
 ghost use Rattle.book.specs.Records.{rules_of};
 ghost use Rattle.season_text.specs.Seasons.{sheets_of};

@@ -8,7 +8,7 @@ returns-in-Err c =
 
 pub loop-placed-preserved : goal.loop-placed-preserved
 loop-placed-preserved c =
-    step_on _ c.args.changes.now c.loop-placed.placed-index _ c.loop-placed-test.true _ _ c.in-default.ensures.0 c.in-default.ensures.1 ∙ c.loop-placed.invariant
+    step_on _ c.args.changes.now c.loop-placed.placed-index _ c.loop-placed-test.true _ _ c.in_default.ensures.0 c.in_default.ensures.1 ∙ c.loop-placed.invariant
 
 pub returns : goal.returns
 returns c = sym c.loop-placed.invariant ∙ steps_done _ _ c.args.changes.now c.loop-placed.placed-index c.loop-placed-test.false

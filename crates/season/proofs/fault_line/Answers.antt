@@ -3,6 +3,6 @@ use Rattle.season.proofs.fault_line.Goals as goal
 
 pub returns : goal.returns
 returns c =
-    c.in-ok-text.ensures.ok
+    c.in_ok-text.ensures.ok
     ∙ (λ i. codes "no "
     ++ (decimal (c.number-number.ensures i) ++ (32 ∷ (decimal (c.place-place.ensures i).line ++ (32 ∷ (decimal (c.place-place.ensures i).offset ++ (10 ∷ [])))))))
