@@ -16,6 +16,8 @@
 //!
 //! Every `Place` is of the whole sheet: its line from 1, and its offset in bytes from the start of the sheet, from 0.
 
+#![tactic(auto)]
+
 mod changes;
 mod line;
 mod reading;
