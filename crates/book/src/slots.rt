@@ -1,6 +1,6 @@
 //! The arc slots of a book: each holds an arc that stands, or is free.
 
-ghost use Rattle.std.specs.Prelude.{◌≡◌, ◌<◌, true, false, length, get_or, MatchOption, slice_index_or};
+ghost use Rattle.std.specs.Prelude.{◌≡◌, ◌<◌, true, false, length, MatchOption, slice_index_or};
 ghost use Rattle.book.specs.Slots.{free, here, touches, arcs_in, joined, tally};
 
 /// A place for one arc of a book. Where it does not stand, its numbers mean nothing.
@@ -52,7 +52,7 @@ pub(crate) fn holds(slots: &[Slot], from: u16, label: u16, to: u16) -> bool
 
 /// A slot that is free.
 pub(crate) fn free_place(slots: &[Slot]) -> Option<usize>
-    ensures { MatchOption result (tally slots.now ≡ length slots.now) (λ i. (i < length slots.now) × ((get_or slots.now i free).stands ≡ false)) }
+    ensures { MatchOption result (tally slots.now ≡ length slots.now) (λ i. (i < length slots.now) × ((slice_index_or slots.now i free).stands ≡ false)) }
 {
     for (i, slot) in slots.iter().enumerate() {
         if !slot.stands {

@@ -1,4 +1,5 @@
 //! The canonical text of a book: one text for all books that are alike.
+#![tactic(auto)]
 
 mod changes;
 #[cfg(test)]

@@ -10,7 +10,7 @@ loop-stage-init c = each_none (vec_items c.args.changes.now) (stage_change (rule
 pub loop-stage-preserved : goal.loop-stage-preserved
 loop-stage-preserved c =
     each_more (stage_change (rules_of c.args.book.now)) c.loop-stage.stage (vec_items c.args.changes.now) (vec_items c.loop-stage.changes) _
-    c.loop-stage.invariant c.in-ok-push-stage.ensures
+    c.loop-stage.invariant c.in_ok-push_stage.ensures
 
 pub returns : goal.returns
 returns c = each_done (stage_change (rules_of c.args.book.now)) c.loop-stage.stage 256 _ _ (omega arith) c.loop-stage.invariant

@@ -5,8 +5,8 @@ use Rattle.book_text.proofs.writing.write_change.Goals as goal
 pub returns-then-room-eq0 : goal.returns-then-room-eq0
 returns-then-room-eq0 c more =
     after_full_sheet (string_bytes c.args.text.now) _ _ c.args.room c.args.change more (omega arith)
-    c.in-ok-push-str.ensures.bytes c.in-ok-write-line.ensures
+    c.in_ok-push_str.ensures.bytes c.in_ok-write_line.ensures
 
 pub returns : goal.returns
 returns c more =
-    within_sheet (string_bytes c.args.text.now) _ c.args.room c.args.change more (omega arith) c.in-ok-write-line-2.ensures
+    within_sheet (string_bytes c.args.text.now) _ c.args.room c.args.change more (omega arith) c.in_ok-write_line-2.ensures

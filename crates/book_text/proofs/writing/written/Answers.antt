@@ -4,9 +4,9 @@ use Rattle.book_text.proofs.writing.written.Goals as goal
 
 pub returns : goal.returns
 returns c = record {
-  changes = vec_items c.in-ok-changes.changes;
-  canonical = c.in-ok-changes.ensures;
+  changes = vec_items c.in_ok-changes.changes;
+  canonical = c.in_ok-changes.ensures;
   is =
-      whole_text _ _ _ _ _ _ c.in-ok-text.ensures.ok c.events-events.ensures.is c.in-ok-write-sheets.ensures
-      c.as-slice.ensures.value;
+      whole_text _ _ _ _ _ _ c.in_ok-text.ensures.ok c.events-events.ensures.is c.in_ok-write_sheets.ensures
+      c.as_slice.ensures.value;
 }
