@@ -10,7 +10,7 @@ abbrev pub Accepted : ℕ → Rules → List (List ℕ) → Rules → Type 0
 Accepted W b [] after = b ≡ after
 Accepted W b (s ∷ ss) after = (n : ℕ) × (next : Rules) × (sheet_applied W b s ≡ Ok (n, next)) × Accepted W next ss after
 
--- The canonical text of a well_formed book is the text of a season with as many events, all of whose sheets are accepted
+-- The canonical text of a well-formed book is the text of a season with as many events, all of whose sheets are accepted
 -- and make a book alike of a fresh one.
 abbrev pub ReadsBack : Type 0
 ReadsBack = (W : ℕ) (b : Rules) (text : List ℕ) → W ≤ 256 → WellFormed W b → CanonicalText b text →
