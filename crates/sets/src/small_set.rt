@@ -8,7 +8,7 @@ pub trait SmallSet: Copy {
     /// The width: members are below it. Generic code reads it by `width()`.
     const W: u16;
 
-    /// The same number, as clauses name it: no clause can name an associated constant. `width()` ties the two.
+    /// The same number, as clauses name it. The check proves of each kind that the two are equal.
     ghost W: { ℕ };
 
     /// Whether a number is a member.
