@@ -1,7 +1,7 @@
 //! The fresh book, and the five changes.
 
 ghost use Rattle.std.specs.Prelude.{◌≡◌, ◌≤◌, min};
-ghost use Rattle.rules.specs.Rules.{fresh as freshRules};
+ghost use Rattle.rules.specs.Rules.{fresh as fresh_rules};
 ghost use Rattle.rules.specs.declared.change.Change.TheVariants.{Stage, Drop as Dropped, Arc, Cut, Mark};
 ghost use Rattle.book.specs.Records.{rules_of, FreshPost, ChangePost, ends_answer};
 
@@ -31,7 +31,7 @@ impl Book {
 
     fn begun(events: u8) -> Book
         requires { (1 ≤ events) × (events ≤ 15) }
-        ensures { rules_of result ≡ freshRules events }
+        ensures { rules_of result ≡ fresh_rules events }
     {
         let mut live = [false; 256];
         live[0] = true;

@@ -23,8 +23,8 @@ within_sheet text next (suc room) ch more d p =
     ap (λ (k : ℕ). next ++ in_sheets k more) e ∙ ap (λ (x : List ℕ). x ++ in_sheets room more) p ∙ append_assoc text (line_text ch) (in_sheets room more)
 
 -- a line and the byte 10 behind it
-pub line_ended : (text with-line line next : List ℕ) (ch : Change) → with-line ≡ text ++ line → line ≡ change_line ch → next ≡ with-line ++ (10 ∷ []) → next ≡ text ++ line_text ch
-line_ended text with-line line next ch p q r =
+pub line_ended : (text with_line line next : List ℕ) (ch : Change) → with_line ≡ text ++ line → line ≡ change_line ch → next ≡ with_line ++ (10 ∷ []) → next ≡ text ++ line_text ch
+line_ended text with_line line next ch p q r =
     r ∙ ap (λ (x : List ℕ). x ++ (10 ∷ [])) (p ∙ ap (λ (x : List ℕ). text ++ x) q) ∙ append_assoc text (change_line ch) (10 ∷ [])
 
 -- one more change is written

@@ -50,7 +50,7 @@ fn sorted_keys(heap: Global, book: &Book) -> Result<Vec<u32>, AllocError>
     ensures { IfOk result (λ v. ArcsInOrder (rules_of book.now) (map arc_of v.items)) }
 {
     let mut keys = arc_keys(heap, book.slots())?;
-    keys.sort()?;
+    keys.sort_unstable();
     Ok(keys)
 }
 

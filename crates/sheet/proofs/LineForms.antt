@@ -21,7 +21,7 @@ use Rattle.sheet.specs.declared.line.Keyword.{Keyword}
 use Rattle.sheet.specs.declared.line.Keyword.TheVariants as keyword
 use Rattle.text.specs.Outcomes.{over, and_then}
 use Rattle.text.specs.Counted.{one_of, two_of, three_of}
-use Rattle.sheet.specs.Lines.{ToldLine, stage, dropped, arc, cut, mark, keyword_of, form_of, from_words, line_of, number_or, number_at, two_numbers_of, three_numbers_of, numbered, change_of}
+use Rattle.sheet.specs.Lines.{ToldLine, stage, dropped, arc, cut, mark, keyword_of, form_of, from_words, line_of, number_or, number_of_word, two_numbers_of, three_numbers_of, numbered, change_of}
 use Rattle.sheet.specs.Sheets.{placed_of}
 use Rattle.sheet.specs.Laws.{LineOf}
 
@@ -115,18 +115,18 @@ record Written (w : Told) (n : ℕ) : Type 0 where
   pub small : n < 1000
   pub text : w.text ≡ decimal n
 
-number_ok : (w : Told) (n : ℕ) → number_at w ≡ Ok n → Written w n
+number_ok : (w : Told) (n : ℕ) → number_of_word w ≡ Ok n → Written w n
 number_ok w n h = let r = number_words.only w.text n (number_or_ok w.place (number_of w.text) n h) in record { small = r.0; text = r.1 }
 
 two_ok : (v w : Told) (x : ℕ × ℕ) → two_numbers_of v w ≡ Ok x → Written v x.0 × Written w x.1
 two_ok v w x h =
-    let a = and_then_ok (number_at v) (λ i. over (λ j. (i, j)) (number_at w)) x h in
-    let b = over_ok (number_at w) (λ j. (a.0, j)) x a.2 in
+    let a = and_then_ok (number_of_word v) (λ i. over (λ j. (i, j)) (number_of_word w)) x h in
+    let b = over_ok (number_of_word w) (λ j. (a.0, j)) x a.2 in
     subst (λ (y : ℕ × ℕ). Written v y.0 × Written w y.1) b.2 (number_ok v a.0 a.1, number_ok w b.0 b.1)
 
 three_ok : (u v w : Told) (x : ℕ × ℕ × ℕ) → three_numbers_of u v w ≡ Ok x → Written u x.0 × Written v x.1 × Written w x.2
 three_ok u v w x h =
-    let a = and_then_ok (number_at u) (λ i. over (λ (q : ℕ × ℕ). (i, q.0, q.1)) (two_numbers_of v w)) x h in
+    let a = and_then_ok (number_of_word u) (λ i. over (λ (q : ℕ × ℕ). (i, q.0, q.1)) (two_numbers_of v w)) x h in
     let b = over_ok (two_numbers_of v w) (λ (q : ℕ × ℕ). (a.0, q.0, q.1)) x a.2 in
     let d = two_ok v w b.0 b.1 in
     subst (λ (y : ℕ × ℕ × ℕ). Written u y.0 × Written v y.1 × Written w y.2) b.2 (number_ok u a.0 a.1, d.0, d.1)
@@ -141,7 +141,7 @@ numbered_ok (stage n m) ch h =
     let b = two_ok n m a.0 a.1 in
     subst (Line (form_text (stage n m))) a.2 ((λ i. codes "stage" ++ (32 ∷ (b.0.text i ++ (32 ∷ b.1.text i)))), (b.0.small, b.1.small))
 numbered_ok (dropped n) ch h =
-    let a = over_ok (number_at n) Drop ch h in
+    let a = over_ok (number_of_word n) Drop ch h in
     let b = number_ok n a.0 a.1 in
     subst (Line (form_text (dropped n))) a.2 ((λ i. codes "drop" ++ (32 ∷ b.text i)), b.small)
 numbered_ok (arc m e n) ch h =

@@ -66,20 +66,20 @@ number_or p None = Err (NotANumber p)
 number_or p (Some n) = Ok n
 
 -- The number that a word is; 14 for any other word.
-abbrev pub number_at : Told → Result ℕ WordFault
-number_at w = number_or w.place (number_of w.text)
+abbrev pub number_of_word : Told → Result ℕ WordFault
+number_of_word w = number_or w.place (number_of w.text)
 
 -- The numbers that two and three words are; the first word that is none is the fault.
 abbrev pub two_numbers_of : Told → Told → Result (ℕ × ℕ) WordFault
-two_numbers_of v w = and_then (number_at v) (λ x. over (λ y. (x, y)) (number_at w))
+two_numbers_of v w = and_then (number_of_word v) (λ x. over (λ y. (x, y)) (number_of_word w))
 
 abbrev pub three_numbers_of : Told → Told → Told → Result (ℕ × ℕ × ℕ) WordFault
-three_numbers_of u v w = and_then (number_at u) (λ x. over (λ n. (x, n.0, n.1)) (two_numbers_of v w))
+three_numbers_of u v w = and_then (number_of_word u) (λ x. over (λ n. (x, n.0, n.1)) (two_numbers_of v w))
 
 -- The change with the numbers that the line's words are.
 abbrev pub numbered : ToldLine → Result Change WordFault
 numbered (stage n m) = over (λ x. change.Stage x.0 x.1) (two_numbers_of n m)
-numbered (dropped n) = over change.Drop (number_at n)
+numbered (dropped n) = over change.Drop (number_of_word n)
 numbered (arc m e n) = over (λ x. change.Arc x.0 x.1 x.2) (three_numbers_of m e n)
 numbered (cut m e n) = over (λ x. change.Cut x.0 x.1 x.2) (three_numbers_of m e n)
 numbered (mark n m) = over (λ x. change.Mark x.0 x.1) (two_numbers_of n m)

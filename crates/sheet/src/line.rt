@@ -6,7 +6,7 @@ ghost use Rattle.text.specs.Split.{told, left};
 ghost use Rattle.sheet_faults.specs.declared.LineFault.TheVariants.{WordCount};
 ghost use Rattle.text.specs.Outcomes.{over};
 ghost use Rattle.text.specs.Counted.{told_two, told_three, none_of, one_of, two_of, three_of};
-ghost use Rattle.sheet.specs.Lines.{told_line, keyword_of, form_of, line_of, number_at, two_numbers_of, three_numbers_of, change_of};
+ghost use Rattle.sheet.specs.Lines.{told_line, keyword_of, form_of, line_of, number_of_word, two_numbers_of, three_numbers_of, change_of};
 
 use rules::Change;
 use sheet_faults::{LineFault, WordFault};
@@ -167,7 +167,7 @@ pub fn read_line<'a>(line: Part<'a>) -> Result<Line<'a>, LineFault>
 
 /// The number that a word is.
 fn number_at(word: Part) -> Result<u16, WordFault>
-    ensures { result ≡ number_at (told word.entry) }
+    ensures { result ≡ number_of_word (told word.entry) }
 {
     number(word.text()).ok_or(WordFault::NotANumber(word.place))
 }

@@ -9,6 +9,6 @@ use Rattle.book_text.proofs.changes.sorted_keys.Goals as goal
 pub returns : goal.returns
 returns c =
     let b = c.args.book.now in
-    let mixed = subst (λ xs. IsPermutation xs (vec_items c.sort.new.self)) c.in_ok-keys.ensures c.sort.ensures.permutation in
+    let mixed = subst (λ xs. IsPermutation xs (vec_items c.sort_unstable.new.self)) c.in_ok-keys.ensures c.sort_unstable.ensures.permutation in
     sorted_arcs (rules_of b) c.slots.result.now _ (well_formed 256 b (live_below b)) c.slots.ensures.arcs c.slots.ensures.once mixed
-    (IsNonDecreasingBy-from_sort (λ x. x) _ c.in_ok-sort.ensures.sorted)
+    (IsNonDecreasingBy-from_sort (λ x. x) _ c.sort_unstable.ensures.sorted)
