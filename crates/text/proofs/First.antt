@@ -1,7 +1,8 @@
 -- The first of a text's parts, and the others.
-use Rattle.std.proofs.Common.{◌≡◌, ℕ, suc, ◌+◌, ◌-◌, ◌*◌, ◌<◌, ◌≤◌, Bool, true, false, cond, eqb, List, [], ◌∷◌, length, get_or, take, drop, sym, refl, ap, ◌∙◌, mul-le-mul_left, mul-one, mul-add, arith, length-drop}
-use Rattle.std.proofs.lemmas.Bool.{eq-eqb, ne_eqb, cond-true}
-use Rattle.std.proofs.lemmas.List.{drop_more, drop-drop, drop-take, drop_all, take_all}
+use Rattle.std.proofs.Common.{◌≡◌, ℕ, suc, ◌+◌, ◌<◌, ◌≤◌, Bool, true, false, cond, eqb, ltb, not, List, Option, [], ◌∷◌, length, take, drop, sym, refl, ap, ◌∙◌, subst, arith, length-drop, Some, None, MatchOption, position}
+use Rattle.std.specs.List.{position_or_len}
+use Rattle.std.proofs.lemmas.Bool.{cond_both, ltb-true, ltb-false}
+use Rattle.std.proofs.lemmas.List.{drop-drop, drop-take, drop_all, take_all}
 use Rattle.text.specs.Split.{Told, part_length, parts, before, empty}
 
 -- A part with this text at this place.
@@ -27,53 +28,52 @@ pub first : (by step line at : ℕ) (bs : List ℕ) → Begins by step line at b
 first by step line at [] = refl
 first by st line at (b ∷ bs) = one_more (eqb b by) by st line at b bs (first by st line (at + 1) bs)
 
--- Where a walk over the bytes stops, and where it goes on.
-pub stops : (by : ℕ) (bs : List ℕ) (i : ℕ) → i < length bs → get_or bs i 0 ≡ by → part_length by (drop i bs) ≡ 0
-stops by bs i h e =
-    let t = eq-eqb (get_or bs i 0) by e in
-    ap (part_length by) (drop_more bs i 0 h) ∙ ap (λ t. cond t 0 (suc (part_length by (drop (i + 1) bs)))) t
+-- How many bytes stand before the first `by`, as the library counts them.
+counted : (by : ℕ) (bs : List ℕ) → position_or_len (λ b. eqb b by) bs ≡ part_length by bs
+counted by [] = refl
+counted by (b ∷ bs) = elim (eqb b by) as (λ t. cond (not t) (1 + position_or_len (λ b. eqb b by) bs) 0 ≡ cond t 0 (suc (part_length by bs)))
+    [ true ↦ refl | false ↦ ap (λ n. 1 + n) (counted by bs) ∙ one_and (part_length by bs) ]
+  where
+    one_and : (n : ℕ) → 1 + n ≡ suc n
+    one_and n = omega arith
 
-pub goes : (by : ℕ) (bs : List ℕ) (i : ℕ) → i < length bs → (get_or bs i 0 ≡ by → ⊥) → part_length by (drop i bs) ≡ suc (part_length by (drop (i + 1) bs))
-goes by bs i h e =
-    let t = ne_eqb (get_or bs i 0) by e in
-    ap (part_length by) (drop_more bs i 0 h) ∙ ap (λ t. cond t 0 (suc (part_length by (drop (i + 1) bs)))) t
+-- Where the byte stands first is the length of the first part; and if it stands nowhere, all bytes belong to that.
+abbrev pub Found : ℕ → List ℕ → Option ℕ → Type 0
+Found by bs r = MatchOption r (length bs ≤ part_length by bs) (λ n. (n ≡ part_length by bs) × (n < length bs))
+
+pub found : (by : ℕ) (bs : List ℕ) (r : Option ℕ) → r ≡ position (λ b. eqb b by) bs → Found by bs r
+found by bs r e =
+    let n = position_or_len (λ b. eqb b by) bs in
+    let same = counted by bs in
+    subst (Found by bs) (sym e)
+    (cond_both (ltb n (length bs)) (Some n) None (Found by bs)
+    (λ t. (same, ltb-true n (length bs) t))
+    (λ f. let past = ltb-false n (length bs) f in omega arith))
 
 past_some : (by step line at : ℕ) (bs : List ℕ) → 0 < length bs → past by step line at bs ≡ parts by step (line + step) at (drop 1 bs)
 past_some by step line at [] h = absurd (omega arith)
 past_some by step line at (b ∷ bs) h = refl
 
--- What `take_first` gives and leaves, where a byte `by` stands behind the part and where none does.
-module _ (by step line at n : ℕ) (bs rest : List ℕ) (more : Bool) (there : more ≡ true) (rest_is : rest ≡ drop at bs) (is : n ≡ part_length by rest) where
-  split : cond more (parts by step line at (drop at bs)) [] ≡ tell line at (take n (drop at bs)) ∷ past by step line (at + suc n) (drop n (drop at bs))
-  split =
-      cond-true more (parts by step line at (drop at bs)) [] there
-      ∙ first by step line at (drop at bs)
-      ∙ ap (λ i. tell line at (take i (drop at bs)) ∷ past by step line (at + suc i) (drop i (drop at bs))) (sym (is ∙ ap (part_length by) rest_is))
-
-  pub next_then : n < length rest → tell line at (drop at (take (at + n - 0) bs)) ∷ cond more (parts by step (line + step) (at + n + 1) (drop (at + n + 1) bs)) [] ≡ cond more (parts by step line at (drop at bs)) []
-  next_then h =
-      let behind : 0 < length (drop n (drop at bs)) = omega (arith, length-drop n (drop at bs), ap length rest_is) in
-      let text : drop at (take (at + n - 0) bs) ≡ take n (drop at bs) = ap (λ i. drop at (take i bs)) (omega arith) ∙ drop-take at n bs in
-      let on : drop (at + n + 1) bs ≡ drop 1 (drop n (drop at bs)) = ap (λ i. drop i bs) (omega arith) ∙ sym (drop-drop (n + 1) at bs) ∙ sym (drop-drop 1 n (drop at bs)) in
+-- What `take_at` gives and leaves, where a byte `by` stands behind the part and where none does.
+module _ (by step line at : ℕ) (bs : List ℕ) where
+  pub next_then : (n : ℕ) → n ≡ part_length by (drop at bs) → n < length (drop at bs) →
+      tell line at (drop at (take (at + n) bs)) ∷ parts by step (line + step) (at + n + 1) (drop (at + n + 1) bs) ≡ parts by step line at (drop at bs)
+  next_then n is h =
+      let rest = drop at bs in
+      let behind : 0 < length (drop n rest) = omega (arith, length-drop n rest) in
+      let on : drop (at + n + 1) bs ≡ drop 1 (drop n rest) = ap (λ i. drop i bs) (omega arith) ∙ sym (drop-drop (n + 1) at bs) ∙ sym (drop-drop 1 n rest) in
       let place : at + n + 1 ≡ at + suc n = omega arith in
-      ap (λ t. tell line at t ∷ cond more (parts by step (line + step) (at + n + 1) (drop (at + n + 1) bs)) []) text
-      ∙ ap (λ ps. tell line at (take n (drop at bs)) ∷ ps) (cond-true more (parts by step (line + step) (at + n + 1) (drop (at + n + 1) bs)) [] there)
-      ∙ ap (λ l. tell line at (take n (drop at bs)) ∷ parts by step (line + step) (at + n + 1) l) on
-      ∙ ap (λ i. tell line at (take n (drop at bs)) ∷ parts by step (line + step) i (drop 1 (drop n (drop at bs)))) place
-      ∙ ap (λ ps. tell line at (take n (drop at bs)) ∷ ps) (sym (past_some by step line (at + suc n) (drop n (drop at bs)) behind))
-      ∙ sym split
+      ap (λ t. tell line at t ∷ parts by step (line + step) (at + n + 1) (drop (at + n + 1) bs)) (drop-take at n bs)
+      ∙ ap (λ l. tell line at (take n rest) ∷ parts by step (line + step) (at + n + 1) l) on
+      ∙ ap (λ i. tell line at (take n rest) ∷ parts by step (line + step) i (drop 1 (drop n rest))) place
+      ∙ ap (λ ps. tell line at (take n rest) ∷ ps) (sym (past_some by step line (at + suc n) (drop n rest) behind))
+      ∙ ap (λ i. tell line at (take i rest) ∷ past by step line (at + suc i) (drop i rest)) is
+      ∙ sym (first by step line at rest)
 
-  pub next_else : length rest ≤ n → tell line at (drop at bs) ∷ [] ≡ cond more (parts by step line at (drop at bs)) []
+  pub next_else : length (drop at bs) ≤ part_length by (drop at bs) → tell line at (drop at bs) ∷ [] ≡ parts by step line at (drop at bs)
   next_else h =
-      let all : length (drop at bs) ≤ n = omega (arith, ap length rest_is) in
-      sym (split
-      ∙ ap (λ t. tell line at t ∷ past by step line (at + suc n) (drop n (drop at bs))) (take_all n (drop at bs) all)
-      ∙ ap (λ l. tell line at (drop at bs) ∷ past by step line (at + suc n) l) (drop_all n (drop at bs) all))
-
--- The line goes on by `step` for each byte at most.
-pub line_on : (line step k m : ℕ) → k + 1 ≤ m → line + step + step * k ≤ line + step * m
-line_on line step k m h =
-    let e : step * (k + 1) ≤ step * m = mul-le-mul_left step h in
-    let d : step * (k + 1) ≡ step * k + step * 1 = mul-add step k 1 in
-    let o : step * 1 ≡ step = mul-one step in
-    omega arith
+      let rest = drop at bs in
+      let n = part_length by rest in
+      sym (first by step line at rest
+      ∙ ap (λ t. tell line at t ∷ past by step line (at + suc n) (drop n rest)) (take_all n rest h)
+      ∙ ap (λ l. tell line at rest ∷ past by step line (at + suc n) l) (drop_all n rest h))

@@ -1,8 +1,7 @@
--- So many words, and no more.
-use Rattle.std.specs.Prelude.{List, [], ◌∷◌, Ok, Err, Result}
+-- So many parts, and no more.
+use Rattle.std.specs.Prelude.{List, [], ◌∷◌, Some, None, Option, option_map}
 use Rattle.text.specs.declared.parts.Part.{Part}
 use Rattle.text.specs.Split.{Told, told}
-use Rattle.text.specs.Outcomes.{over}
 
 -- What two and three parts tell.
 abbrev pub told_two : Part × Part → Told × Told
@@ -11,22 +10,16 @@ told_two w = (told w.0, told w.1)
 abbrev pub told_three : Part × Part × Part → Told × Told × Told
 told_three w = (told w.0, told w.1, told w.2)
 
--- No word, one, two or three words, and no more; else the fault e.
-abbrev pub none_of : {E : Type 0} → E → List Told → Result (Unit {0}) E
-none_of e [] = Ok tt
-none_of e (a ∷ ws) = Err e
+-- The only part, the only two and the only three; absent where there are fewer or more.
+abbrev pub one_of : List Told → Option Told
+one_of [] = None
+one_of (a ∷ []) = Some a
+one_of (a ∷ b ∷ ps) = None
 
-abbrev pub one_of : {E : Type 0} → E → List Told → Result Told E
-one_of e [] = Err e
-one_of e (a ∷ []) = Ok a
-one_of e (a ∷ b ∷ ws) = Err e
+abbrev pub two_of : List Told → Option (Told × Told)
+two_of [] = None
+two_of (a ∷ ps) = option_map (λ b. (a, b)) (one_of ps)
 
-abbrev pub two_of : {E : Type 0} → E → List Told → Result (Told × Told) E
-two_of e [] = Err e
-two_of e (a ∷ []) = Err e
-two_of e (a ∷ b ∷ []) = Ok (a, b)
-two_of e (a ∷ b ∷ c ∷ ws) = Err e
-
-abbrev pub three_of : {E : Type 0} → E → List Told → Result (Told × Told × Told) E
-three_of e [] = Err e
-three_of e (a ∷ ws) = over (λ w. (a, w.0, w.1)) (two_of e ws)
+abbrev pub three_of : List Told → Option (Told × Told × Told)
+three_of [] = None
+three_of (a ∷ ps) = option_map (λ w. (a, w.0, w.1)) (two_of ps)

@@ -1,5 +1,6 @@
 -- The parts of a text between bytes of one value, each with its place.
-use Rattle.std.specs.Prelude.{◌≡◌, ℕ, suc, ◌+◌, ◌-◌, ◌*◌, ◌<◌, ◌≤◌, cond, List, [], ◌∷◌, ◌++◌, length, take, drop, ◌==◌, ◌≢◌}
+use Rattle.std.specs.Prelude.{◌≡◌, ℕ, suc, ◌+◌, ◌-◌, ◌*◌, ◌<◌, ◌≤◌, Bool, true, cond, List, [], ◌∷◌, ◌++◌, length, take, drop, Some, None, Option, IfNone, ◌==◌, ◌≢◌}
+use Rattle.std.specs.Iterator.{YieldsFirstBy}
 use Rattle.text.specs.declared.parts.Place.{Place}
 use Rattle.text.specs.declared.parts.Part.{Part}
 use Rattle.text.specs.declared.parts.Parts.{Parts}
@@ -37,13 +38,28 @@ parts by step line at (b ∷ bs) = cond (b == by) (empty line at ∷ parts by st
 abbrev pub lines : List ℕ → List Told
 lines bs = parts 10 1 1 0 bs
 
+-- A line is skipped if it is empty or its first byte is 35, a #.
+abbrev pub is_skipped_line : List ℕ → Bool
+is_skipped_line [] = true
+is_skipped_line (b ∷ bs) = b == 35
+
 -- The words of a line: its parts between spaces, all on this line.
 abbrev pub words : Told → List Told
 words p = parts 32 0 p.place.line p.place.offset p.text
 
+-- The parts of a text from a place on, or none without a place.
+abbrev pub parts_from : ℕ → ℕ → List ℕ → Option Place → List Told
+parts_from by step bs None = []
+parts_from by step bs (Some p) = parts by step p.line p.offset (drop p.offset bs)
+
 -- What a `Parts` has still to give.
 abbrev pub left : Parts → List Told
-left c = cond c.more (parts c.by c.step c.place.line c.place.offset (drop c.place.offset c.text.now)) []
+left c = parts_from c.separator.byte c.separator.lines c.text.now c.next
+
+-- What the next part is: the first of those that were left, and the others are left then. Or there is none, since none
+-- was left, and nothing is altered.
+abbrev pub GivesNext : Parts → Option Part → Parts → Type 0
+GivesNext before part after = YieldsFirstBy told left before part after × IfNone part (after ≡ before)
 
 -- The texts of the parts in order, with one byte `by` between each two.
 abbrev pub joined : ℕ → List Told → List ℕ

@@ -3,14 +3,17 @@
 
 #![tactic(auto)]
 
-ghost use Rattle.std.specs.Prelude.{◌≡◌, ◌+◌, ◌-◌, ◌*◌, ◌^◌, ◌<◌, ◌≤◌, true, [], ◌∷◌, length, drop, IfSome, MatchOption};
-ghost use Rattle.text.specs.Split.{part_length, parts, words, lines, told, left, Whole, Placed};
+ghost use Rattle.std.specs.Prelude.{◌≡◌, option_map, ◌+◌, ◌-◌, ◌*◌, ◌^◌, ◌<◌, ◌≤◌, true, [], ◌∷◌, length, drop, IfSome, position, ◌==◌, MatchOption};
+ghost use Rattle.std.specs.Iterator.{item_count};
+ghost use Rattle.text.specs.Split.{part_length, parts, words, lines, told, left, is_skipped_line, GivesNext, Whole, Placed};
+ghost use Rattle.text.specs.Counted.{told_two, told_three, one_of, two_of, three_of};
 ghost use Rattle.text.specs.Numbers.{digit_of, number_of, NumberWords};
 
 mod parts;
 #[cfg(test)]
 mod tests;
 
+use parts::Separator;
 pub use parts::{Part, Parts, Place};
 
 /// The bytes of a text from an offset on: none if the offset is past the end.
@@ -18,24 +21,14 @@ fn tail(text: &[u8], offset: usize) -> &[u8]
     ensures is { result.now ≡ drop offset text.now }
     ensures len { length result.now ≡ length text.now - offset }
 {
-    if offset <= text.len() {
-        &text[offset..]
-    } else {
-        &[]
-    }
+    text.get(offset..).unwrap_or(&[])
 }
 
-/// How many bytes stand before the first that is `by`.
-fn part_len(bytes: &[u8], by: u8) -> usize
-    ensures is { result ≡ part_length by bytes.now }
-    ensures within { result ≤ length bytes.now }
+/// Where the byte stands first.
+fn place_of(bytes: &[u8], byte: u8) -> Option<usize>
+    ensures { result ≡ position (λ b. b == byte) bytes.now }
 {
-    for (i, b) in bytes.iter().enumerate() {
-        if *b == by {
-            return i;
-        }
-    }
-    bytes.len()
+    bytes.iter().position(|b| *b == byte)
 }
 
 impl<'a> Part<'a> {
@@ -44,6 +37,14 @@ impl<'a> Part<'a> {
         ensures { result.now ≡ (told self.now).text }
     {
         tail(self.upto, self.place.offset)
+    }
+
+    /// Whether the part, as a line, is to be skipped: it is empty or begins with `#`.
+    pub fn is_skipped(&self) -> bool
+        ensures { result ≡ is_skipped_line (told self.now).text }
+    {
+        let first = self.text().first();
+        first.is_none() || first == Some(&b'#')
     }
 }
 
@@ -56,7 +57,11 @@ impl<'a> Parts<'a> {
         ensures placed { Placed 10 1 1 0 text.now 0 (left result) }
     {
         let start = Place { line: 1, offset: 0 };
-        Parts::between(text, start, b'\n', 1)
+        let separator = Separator {
+            byte: b'\n',
+            lines: 1,
+        };
+        Parts::between(text, start, separator)
     }
 
     /// The words of a line: the parts between single spaces, so two spaces in a row have an empty word
@@ -66,60 +71,97 @@ impl<'a> Parts<'a> {
         ensures whole { Whole 32 (told line.entry).text (left result) }
         ensures placed { Placed 32 0 (told line.entry).place.line (told line.entry).place.offset (told line.entry).text 0 (left result) }
     {
-        Parts::between(line.upto, line.place, b' ', 0)
+        let separator = Separator {
+            byte: b' ',
+            lines: 0,
+        };
+        Parts::between(line.upto, line.place, separator)
     }
 
-    /// The next part, or none after the last.
-    pub fn next(&mut self) -> Option<Part<'a>>
-        ensures { MatchOption result ((left self.old ≡ []) × (self.new ≡ self.old)) (λ p. told p ∷ left self.new ≡ left self.old) }
+    // An array with the number of parts as a const parameter would be one function for the next three; the checker does
+    // not cover arrays of references whose length is such a parameter.
+
+    /// The only part that is to come, if it is one.
+    pub fn one(mut self) -> Option<Part<'a>>
+        ensures { option_map told result ≡ one_of (left self.entry) }
     {
-        if self.more {
-            Some(self.take_first())
-        } else {
-            None
+        let only = self.next()?;
+        match self.next() {
+            None => Some(only),
+            Some(_) => None,
         }
     }
 
-    /// The parts of a text from a place on, between the bytes `by`, each of which takes the line on by
-    /// `step`.
-    fn between(text: &'a [u8], place: Place, by: u8, step: usize) -> Parts<'a>
-        requires { place.line + step * (length text.now - place.offset) < 2 ^ 64 }
-        ensures is { left result ≡ parts by step place.line place.offset (drop place.offset text.now) }
-        ensures whole { Whole by (drop place.offset text.now) (left result) }
-        ensures placed { Placed by step place.line place.offset (drop place.offset text.now) 0 (left result) }
+    /// The two parts that are to come, if they are two.
+    pub fn two(mut self) -> Option<(Part<'a>, Part<'a>)>
+        ensures { option_map told_two result ≡ two_of (left self.entry) }
+    {
+        let first = self.next()?;
+        let second = self.one()?;
+        Some((first, second))
+    }
+
+    /// The three parts that are to come, if they are three.
+    pub fn three(mut self) -> Option<(Part<'a>, Part<'a>, Part<'a>)>
+        ensures { option_map told_three result ≡ three_of (left self.entry) }
+    {
+        let first = self.next()?;
+        let (second, third) = self.two()?;
+        Some((first, second, third))
+    }
+
+    /// The parts of a text from a place on.
+    fn between(text: &'a [u8], place: Place, separator: Separator) -> Parts<'a>
+        requires { place.line + separator.lines * (length text.now - place.offset) < 2 ^ 64 }
+        ensures is { left result ≡ parts separator.byte separator.lines place.line place.offset (drop place.offset text.now) }
+        ensures whole { Whole separator.byte (drop place.offset text.now) (left result) }
+        ensures placed { Placed separator.byte separator.lines place.line place.offset (drop place.offset text.now) 0 (left result) }
     {
         Parts {
             text,
-            place,
-            by,
-            step,
-            more: true,
+            separator,
+            next: Some(place),
         }
     }
 
-    /// Takes the first of the parts to come, of which there must be one.
-    fn take_first(&mut self) -> Part<'a>
-        requires { self.old.more ≡ true }
+    /// Takes the part that begins at `place`, the first of those to come.
+    fn take_at(&mut self, place: Place) -> Part<'a>
+        requires { self.old.next ≡ Some place }
         ensures { told result ∷ left self.new ≡ left self.old }
     {
-        let text = self.text;
-        let place = self.place;
+        let Parts {
+            text,
+            separator,
+            ..
+        } = *self;
         let rest = tail(text, place.offset);
-        let n = part_len(rest, self.by);
-        if n < rest.len() {
-            let end = place.offset + n;
-            self.place = Place {
-                line: place.line + self.step,
-                offset: end + 1,
-            };
-            Part {
-                upto: &text[0..end],
-                place,
-            }
-        } else {
-            self.more = false;
-            Part { upto: text, place }
+        let Some(len) = place_of(rest, separator.byte) else {
+            self.next = None;
+            return Part { upto: text, place };
+        };
+        let end = place.offset + len;
+        self.next = Some(Place {
+            line: place.line + separator.lines,
+            offset: end + 1,
+        });
+        Part {
+            upto: &text[..end],
+            place,
         }
+    }
+}
+
+impl<'a> Iterator for Parts<'a> {
+    type Item = Part<'a>;
+
+    ghost next_gives = { GivesNext };
+
+    ghost remaining = { item_count left };
+
+    /// The next part, or none after the last.
+    fn next(&mut self) -> Option<Part<'a>> {
+        let place = self.next?;
+        Some(self.take_at(place))
     }
 }
 

@@ -1,9 +1,10 @@
 //! A text's parts and their places.
 
 ghost use Rattle.std.specs.Prelude.{◌+◌, ◌-◌, ◌*◌, ◌^◌, ◌<◌, length};
+ghost use Rattle.std.specs.Option.{ForSome};
 
 /// Where a part of a text begins: its line, from 1, and its byte offset in the whole text, from 0.
-#[derive(Clone, Copy, PartialEq, Eq, Debug)]
+#[derive(Clone, Copy, Debug, PartialEq, Eq)]
 pub struct Place {
     pub line: usize,
     pub offset: usize,
@@ -17,15 +18,19 @@ pub struct Part<'a> {
     pub place: Place,
 }
 
-/// The parts of a text that are still to come, in order. If there are `more`, the next one begins at
-/// `place`. The parts stand between the bytes `by`, and each such byte takes the line on by `step`. The
-/// ghost field says that the line stays in range even if all the bytes to come are such.
+/// The byte between the parts of a text, and by how many lines each such byte takes the line on.
+#[derive(Clone, Copy)]
+pub(crate) struct Separator {
+    pub(crate) byte: u8,
+    pub(crate) lines: usize,
+}
+
+/// The parts of a text that are still to come, in order. The next one begins at the place `next`, if there is one. The
+/// ghost field says that the line stays in range even if all the bytes to come are separators.
 #[derive(Clone, Copy)]
 pub struct Parts<'a> {
     pub(crate) text: &'a [u8],
-    pub(crate) place: Place,
-    pub(crate) by: u8,
-    pub(crate) step: usize,
-    pub(crate) more: bool,
-    ghost fits: { place.line + step * (length text.now - place.offset) < 2 ^ 64 },
+    pub(crate) separator: Separator,
+    pub(crate) next: Option<Place>,
+    ghost fits: { ForSome next (λ place. place.line + separator.lines * (length text.now - place.offset) < 2 ^ 64) },
 }

@@ -5,10 +5,7 @@ use Rattle.text.proofs.parts.Parts.between.Goals as goal
 
 pub returns : goal.returns
 returns c =
-    let at = c.args.place.offset in
-    let rest = drop at c.args.text.now in
-    record {
-      is = refl;
-      whole = whole c.args.by c.args.step c.args.place.line at rest;
-      placed = placed c.args.by c.args.step c.args.place.line at rest;
-    }
+    let by = c.args.separator.byte in
+    let step = c.args.separator.lines in
+    let rest = drop c.args.place.offset c.args.text.now in
+    record { is = refl; whole = whole by step c.args.place.line c.args.place.offset rest; placed = placed by step c.args.place.line c.args.place.offset rest }
