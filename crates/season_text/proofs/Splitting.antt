@@ -1,9 +1,11 @@
 -- A text is cut at its first line `end`.
-use Rattle.std.proofs.Common.{◌≡◌, ℕ, zero, suc, ◌+◌, ◌-◌, ◌<◌, ◌≤◌, Bool, true, false, cond, eqb, List, [], ◌∷◌, ◌++◌, map, length, take, drop, Some, None, codes, Option, sym, refl, ap, ◌∙◌, subst, append_assoc, append-nil, arith, length-drop}
+use Rattle.std.proofs.Common.{◌≡◌, ℕ, zero, suc, ◌+◌, ◌-◌, ◌<◌, ◌≤◌, Bool, true, false, cond, eqb, List, [], ◌∷◌, ◌++◌, map, length, take, drop, Some, None, codes, Option, IfSome, option_map, sym, refl, ap, ◌∙◌, subst, append_assoc, append-nil, arith, length-drop}
+use Rattle.std.specs.List.{find}
 use Rattle.std.specs.Str.{bytes_eq}
 use Rattle.std.proofs.lemmas.Bool.{eqb-true}
-use Rattle.std.proofs.lemmas.List.{length-take-le, take_all}
-use Rattle.text.specs.Split.{Told, part_length, parts, before, lines}
+use Rattle.std.proofs.lemmas.List.{length-take-le, take_all, drop_all}
+use Rattle.text.specs.declared.parts.Part.{Part}
+use Rattle.text.specs.Split.{Told, told, part_length, parts, before, lines}
 use Rattle.text.proofs.First.{tell, past, first}
 use Rattle.season_text.specs.Seasons.{line_texts, sheets_from, others, sheets_of, end_at, sheets_in}
 
@@ -140,19 +142,21 @@ cut_none bs e = subst (CutAt [] bs 0 (sheets_in bs)) (sym e) (cut (suc (length b
 cut_here : (bs : List ℕ) (k : ℕ) → Some k ≡ end_at (lines bs) → Cut [] bs 0 (sheets_in bs) k
 cut_here bs k e = subst (CutAt [] bs 0 (sheets_in bs)) (sym e) (cut (suc (length bs)) [] bs 1 0 (omega arith))
 
-pub cut_within : (bs : List ℕ) (k : ℕ) → Some k ≡ end_at (lines bs) → k ≤ length bs
-cut_within bs k e = omega (arith, (cut_here bs k e).within)
+pub cut_within : (bs : List ℕ) (o : Option ℕ) → o ≡ end_at (lines bs) → IfSome o (λ k. k ≤ length bs)
+cut_within bs None e = tt
+cut_within bs (Some k) e = omega (arith, (cut_here bs k e).within)
 
 pub cut_some : (bs : List ℕ) (k : ℕ) → Some k ≡ end_at (lines bs) → sheets_in bs ≡ take k bs ∷ sheets_of (drop k bs)
 cut_some bs k e = let z : k - 0 ≡ k = omega arith in (cut_here bs k e).are ∙ ap (λ (j : ℕ). take j bs ∷ sheets_of (drop j bs)) z
 
--- the first line `end` is this line, or a later one
-pub end_here : (p : Told) (ps qs : List Told) (o : Option ℕ) → p ∷ ps ≡ qs → bytes_eq p.text (codes "end") ≡ true → end_at qs ≡ o →
-    Some p.place.offset ≡ o
-end_here p ps qs o e h r = sym (ap (λ (v : Bool). cond v (Some p.place.offset) (end_at ps)) h) ∙ ap end_at e ∙ r
-
-pub end_later : (p : Told) (ps qs : List Told) (o : Option ℕ) → p ∷ ps ≡ qs → bytes_eq p.text (codes "end") ≡ false → end_at qs ≡ o → end_at ps ≡ o
-end_later p ps qs o e h r = sym (ap (λ (v : Bool). cond v (Some p.place.offset) (end_at ps)) h) ∙ ap end_at e ∙ r
+-- the first line `end` is the first that is found
+pub end_found : (ls : List Told) (o : Option Part) → option_map told o ≡ find (λ l. bytes_eq l.text (codes "end")) ls → option_map (λ l. l.place.offset) o ≡ end_at ls
+end_found ls o e = elim o as (λ o. option_map (λ l. l.place.offset) o ≡ option_map (λ l. l.place.offset) (option_map told o)) [ None ↦ refl | Some l ↦ refl ] ∙ ap (option_map (λ l. l.place.offset)) e ∙ sought ls
+  where
+    sought : (ls : List Told) → option_map (λ l. l.place.offset) (find (λ l. bytes_eq l.text (codes "end")) ls) ≡ end_at ls
+    sought [] = refl
+    sought (l ∷ ls) = elim (bytes_eq l.text (codes "end")) as (λ v. option_map (λ l. l.place.offset) (cond v (Some l) (find (λ l. bytes_eq l.text (codes "end")) ls)) ≡ cond v (Some l.place.offset) (end_at ls))
+        [ true ↦ refl | false ↦ sought ls ]
 
 abbrev head_of : List (List ℕ) → List ℕ
 head_of [] = []
@@ -169,14 +173,15 @@ module _ (bs : List ℕ) (p : Told) (ps : List Told) (e : p ∷ ps ≡ lines bs)
   rest_is : sheets_of bs ≡ sheets_from [] (texts (past 10 1 1 (0 + suc (part_length 10 bs)) (drop (part_length 10 bs) bs)))
   rest_is = ap (λ (ls : List (List ℕ)). sheets_from [] (others ls)) (ap texts (first 10 1 1 0 bs))
 
-  pub after_first : length p.text < length bs → sheets_in (drop (length p.text + 1) bs) ≡ sheets_of bs
-  after_first lt = go (behind 10 bs)
+  pub after_first : sheets_in (drop (length p.text + 1) bs) ≡ sheets_of bs
+  after_first = go (behind 10 bs)
     where
       go : Behind 10 bs (part_length 10 bs) → sheets_in (drop (length p.text + 1) bs) ≡ sheets_of bs
       go (nothing h) =
           let none = ap length h in
           let all = take_all (part_length 10 bs) bs (omega (arith, none, length-drop (part_length 10 bs) bs)) in
-          absurd (omega (arith, lt, ap length text_is, ap length all))
+          ap sheets_in (drop_all (length p.text + 1) bs (omega (arith, ap length text_is, ap length all)))
+          ∙ sym (rest_is ∙ ap (λ (d : List ℕ). sheets_from [] (texts (past 10 1 1 (0 + suc (part_length 10 bs)) d))) h)
       go (more rest h) =
           let some = ap length h in
           let size : length p.text ≡ part_length 10 bs = ap length text_is ∙ length-take-le (part_length 10 bs) bs (omega (arith, some, length-drop (part_length 10 bs) bs)) in
@@ -184,13 +189,3 @@ module _ (bs : List ℕ) (p : Told) (ps : List Told) (e : p ∷ ps ≡ lines bs)
           ap sheets_in there
           ∙ ap (sheets_from []) (shift 1 0 (1 + 1) (0 + suc (part_length 10 bs)) rest)
           ∙ sym (rest_is ∙ ap (λ (d : List ℕ). sheets_from [] (texts (past 10 1 1 (0 + suc (part_length 10 bs)) d))) h)
-
-  pub only_first : length bs ≤ length p.text → ◌≡◌ {A = List (List ℕ)} [] (sheets_of bs)
-  only_first le = go (behind 10 bs)
-    where
-      go : Behind 10 bs (part_length 10 bs) → ◌≡◌ {A = List (List ℕ)} [] (sheets_of bs)
-      go (nothing h) = sym (rest_is ∙ ap (λ (d : List ℕ). sheets_from [] (texts (past 10 1 1 (0 + suc (part_length 10 bs)) d))) h)
-      go (more rest h) =
-          let some = ap length h in
-          let size : length p.text ≡ part_length 10 bs = ap length text_is ∙ length-take-le (part_length 10 bs) bs (omega (arith, some, length-drop (part_length 10 bs) bs)) in
-          absurd (omega (arith, le, size, some, length-drop (part_length 10 bs) bs))

@@ -3,12 +3,14 @@
 
 #![tactic(auto)]
 
-ghost use Rattle.std.specs.Prelude.{◌≡◌, ◌≤◌, [], ◌∷◌, length, IfSome, codes, MatchOption};
+ghost use Rattle.std.specs.Prelude.{option_map, ◌≡◌, ◌≤◌, [], ◌∷◌, length, IfSome, codes, MatchOption};
+ghost use Rattle.std.specs.Iterator.{item_count};
+ghost use Rattle.std.specs.List.{find};
 ghost use Rattle.std.specs.Str.{bytes_eq};
-ghost use Rattle.text.specs.Split.{lines};
-ghost use Rattle.season_text.specs.Seasons.{line_texts, events_of, sheets_in, sheets_of, end_at, left};
+ghost use Rattle.text.specs.Split.{lines, told};
+ghost use Rattle.season_text.specs.Seasons.{line_texts, events_of, sheets_in, sheets_of, end_at, left, GivesNext};
 
-use text::{Parts, number};
+use text::{Part, Parts, number, tail};
 
 mod sheets;
 
@@ -18,10 +20,9 @@ pub use sheets::Sheets;
 pub fn events(text: &[u8]) -> Option<u8>
     ensures { result ≡ events_of (line_texts text.now) }
 {
-    let mut lines = Parts::lines(text);
-    let first = lines.next()?;
-    match number(first.text()) {
-        Some(n) if n >= 1 && n <= 15 => Some(n as u8),
+    let first = Parts::lines(text).next()?;
+    match number(first.text())? {
+        n @ 1..=15 => Some(n as u8),
         _ => None,
     }
 }
@@ -35,14 +36,18 @@ impl<'a> Sheets<'a> {
             rest: after_first_line(text),
         }
     }
+}
+
+impl<'a> Iterator for Sheets<'a> {
+    type Item = &'a [u8];
+
+    ghost next_gives = { GivesNext };
+
+    ghost remaining = { item_count left };
 
     /// The next sheet, or none after the last.
-    pub fn next(&mut self) -> Option<&'a [u8]>
-        ensures { MatchOption result ((left self.old ≡ []) × (self.new ≡ self.old)) (λ s. s.now ∷ left self.new ≡ left self.old) }
-    {
-        let Some((sheet, after)) = first_sheet(self.rest) else {
-            return None;
-        };
+    fn next(&mut self) -> Option<&'a [u8]> {
+        let (sheet, after) = first_sheet(self.rest)?;
         self.rest = after;
         Some(sheet)
     }
@@ -52,10 +57,7 @@ impl<'a> Sheets<'a> {
 fn first_sheet(text: &[u8]) -> Option<(&[u8], &[u8])>
     ensures { MatchOption result (sheets_in text.now ≡ []) (λ p. p.0.now ∷ sheets_in p.1.now ≡ sheets_in text.now) }
 {
-    let Some(at) = end_line(text) else {
-        return None;
-    };
-    let (sheet, after) = text.split_at(at);
+    let (sheet, after) = text.split_at(end_line(text)?);
     Some((sheet, after_first_line(after)))
 }
 
@@ -63,16 +65,10 @@ fn first_sheet(text: &[u8]) -> Option<(&[u8], &[u8])>
 fn after_first_line(text: &[u8]) -> &[u8]
     ensures { sheets_in result.now ≡ sheets_of text.now }
 {
-    let mut lines = Parts::lines(text);
-    let Some(first) = lines.next() else {
+    let Some(first) = Parts::lines(text).next() else {
         return &[];
     };
-    let end = first.text().len();
-    if end < text.len() {
-        &text[end + 1..]
-    } else {
-        &[]
-    }
+    tail(text, first.text().len() + 1)
 }
 
 /// The offset of the first line `end`.
@@ -80,20 +76,14 @@ fn end_line(text: &[u8]) -> Option<usize>
     ensures is { result ≡ end_at (lines text.now) }
     ensures within { IfSome result (λ at. at ≤ length text.now) }
 {
-    let mut lines = Parts::lines(text);
-    while let Some(line) = lines.next() {
-        if is_end(line.text()) {
-            return Some(line.place.offset);
-        }
-    }
-    None
+    first_end(text).map(|line| line.place.offset)
 }
 
-/// Whether a line is `end`.
-fn is_end(line: &[u8]) -> bool
-    ensures { result ≡ bytes_eq line.now (codes "end") }
+/// The first line `end`.
+fn first_end(text: &[u8]) -> Option<Part>
+    ensures { option_map told result ≡ find (λ l. bytes_eq l.text (codes "end")) (lines text.now) }
 {
-    line == b"end".as_slice()
+    Parts::lines(text).find(|line| line.text() == b"end".as_slice())
 }
 
 #[cfg(test)]

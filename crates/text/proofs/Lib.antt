@@ -1,3 +1,4 @@
+pub mod Yielding
 pub mod First
 pub mod Back
 pub mod Places

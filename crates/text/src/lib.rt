@@ -17,7 +17,7 @@ use parts::Separator;
 pub use parts::{Part, Parts, Place};
 
 /// The bytes of a text from an offset on: none if the offset is past the end.
-fn tail(text: &[u8], offset: usize) -> &[u8]
+pub fn tail(text: &[u8], offset: usize) -> &[u8]
     ensures is { result.now ≡ drop offset text.now }
     ensures len { length result.now ≡ length text.now - offset }
 {

@@ -1,18 +1,12 @@
-use Rattle.std.proofs.Common.{ℕ, List, codes, sym, ap, ◌∙◌}
-use Rattle.std.specs.Str.{bytes_eq}
-use Rattle.text.specs.Split.{told, left}
-use Rattle.season_text.proofs.Splitting.{end_here, end_later, cut_within}
+use Rattle.std.proofs.Common.{rules, ◌≡◌, option_map, ◌∙◌}
+use Rattle.text.specs.Split.{lines}
+use Rattle.season_text.proofs.Splitting.{end_found, cut_within}
 use Rattle.season_text.proofs.end_line.Goals as goal
 
-pub returns-then-is_end : goal.returns-then-is_end
-returns-then-is_end c =
-    let same = ap (λ (l : List ℕ). bytes_eq l (codes "end")) c.text.ensures in
-    let found = end_here (told c.in-Some.line) (left c.next.new.self) (left c.loop-line.lines) _ c.in-Some.ensures
-    (sym same ∙ sym c.if-is_end.ensures) c.loop-line.invariant in
-    record { is = found; within = cut_within c.args.text.now _ found }
+pub returns-clause-is : goal.returns-clause-is
+returns-clause-is c =
+    let e : c.map.result ≡ option_map (λ l. l.place.offset) c.first_end.result = search rules in
+    e ∙ end_found (lines c.args.text.now) c.first_end.result c.first_end.ensures
 
-pub loop-line-preserved : goal.loop-line-preserved
-loop-line-preserved c =
-    let same = ap (λ (l : List ℕ). bytes_eq l (codes "end")) c.text.ensures in
-    end_later (told c.in-Some.line) (left c.next.new.self) (left c.loop-line.lines) _ c.in-Some.ensures
-    (sym same ∙ sym c.if-is_end.ensures) c.loop-line.invariant
+pub returns-clause-within : goal.returns-clause-within
+returns-clause-within c = cut_within c.args.text.now c.map.result (returns-clause-is c)
