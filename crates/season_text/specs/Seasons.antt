@@ -1,7 +1,5 @@
 -- The text of a season: the number of events, and sheets.
-use Rattle.std.specs.Prelude.{ℕ, cond, ◌&&◌, List, [], ◌∷◌, ◌++◌, map, Some, None, codes, Option, IfNone, ◌≡◌, nat_le}
-use Rattle.std.specs.Borrow.{Bor}
-use Rattle.std.specs.Iterator.{YieldsFirstRef}
+use Rattle.std.specs.Prelude.{ℕ, cond, ◌&&◌, List, [], ◌∷◌, ◌++◌, map, Some, None, codes, Option, nat_le}
 use Rattle.std.specs.Str.{bytes_eq}
 use Rattle.text.specs.Split.{Told, lines}
 use Rattle.text.specs.Numbers.{number_of}
@@ -48,8 +46,3 @@ end_at (l ∷ ls) = cond (bytes_eq l.text (codes "end")) (Some l.place.offset) (
 -- What a `Sheets` has still to give.
 abbrev pub left : Sheets → List (List ℕ)
 left s = sheets_in s.rest.now
-
--- What the next sheet is: the first of those that were left, and the others are left then. Or there is none, since none
--- was left, and nothing is altered.
-abbrev pub GivesNext : Sheets → Option (Bor (List ℕ)) → Sheets → Type 0
-GivesNext before sheet after = YieldsFirstRef left before sheet after × IfNone sheet (after ≡ before)

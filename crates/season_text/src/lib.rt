@@ -7,8 +7,9 @@ ghost use Rattle.std.specs.Prelude.{option_map, ◌≡◌, ◌≤◌, [], ◌∷
 ghost use Rattle.std.specs.Iterator.{item_count};
 ghost use Rattle.std.specs.List.{find};
 ghost use Rattle.std.specs.Str.{bytes_eq};
+ghost use Rattle.text.specs.Giving.{GivesFirst};
 ghost use Rattle.text.specs.Split.{lines, told};
-ghost use Rattle.season_text.specs.Seasons.{line_texts, events_of, sheets_in, sheets_of, end_at, left, GivesNext};
+ghost use Rattle.season_text.specs.Seasons.{line_texts, events_of, sheets_in, sheets_of, end_at, left};
 
 use text::{Part, Parts, number, tail};
 
@@ -41,7 +42,7 @@ impl<'a> Sheets<'a> {
 impl<'a> Iterator for Sheets<'a> {
     type Item = &'a [u8];
 
-    ghost next_gives = { GivesNext };
+    ghost next_gives = { GivesFirst (λ s. s.now) left };
 
     ghost remaining = { item_count left };
 

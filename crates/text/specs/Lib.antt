@@ -2,3 +2,4 @@ pub mod Split
 pub mod Numbers
 pub mod Outcomes
 pub mod Counted
+pub mod Giving

@@ -1,6 +1,5 @@
 -- The parts of a text between bytes of one value, each with its place.
-use Rattle.std.specs.Prelude.{◌≡◌, ℕ, suc, ◌+◌, ◌-◌, ◌*◌, ◌<◌, ◌≤◌, Bool, true, cond, List, [], ◌∷◌, ◌++◌, length, take, drop, Some, None, Option, IfNone, ◌==◌, ◌≢◌}
-use Rattle.std.specs.Iterator.{YieldsFirstBy}
+use Rattle.std.specs.Prelude.{◌≡◌, ℕ, suc, ◌+◌, ◌-◌, ◌*◌, ◌<◌, ◌≤◌, Bool, true, cond, List, [], ◌∷◌, ◌++◌, length, take, drop, Some, None, Option, ◌==◌, ◌≢◌}
 use Rattle.text.specs.declared.parts.Place.{Place}
 use Rattle.text.specs.declared.parts.Part.{Part}
 use Rattle.text.specs.declared.parts.Parts.{Parts}
@@ -55,11 +54,6 @@ parts_from by step bs (Some p) = parts by step p.line p.offset (drop p.offset bs
 -- What a `Parts` has still to give.
 abbrev pub left : Parts → List Told
 left c = parts_from c.separator.byte c.separator.lines c.text.now c.next
-
--- What the next part is: the first of those that were left, and the others are left then. Or there is none, since none
--- was left, and nothing is altered.
-abbrev pub GivesNext : Parts → Option Part → Parts → Type 0
-GivesNext before part after = YieldsFirstBy told left before part after × IfNone part (after ≡ before)
 
 -- The texts of the parts in order, with one byte `by` between each two.
 abbrev pub joined : ℕ → List Told → List ℕ

@@ -5,7 +5,8 @@
 
 ghost use Rattle.std.specs.Prelude.{◌≡◌, option_map, ◌+◌, ◌-◌, ◌*◌, ◌^◌, ◌<◌, ◌≤◌, true, [], ◌∷◌, length, drop, IfSome, position, ◌==◌, MatchOption};
 ghost use Rattle.std.specs.Iterator.{item_count};
-ghost use Rattle.text.specs.Split.{part_length, parts, words, lines, told, left, is_skipped_line, GivesNext, Whole, Placed};
+ghost use Rattle.text.specs.Giving.{GivesFirst};
+ghost use Rattle.text.specs.Split.{part_length, parts, words, lines, told, left, is_skipped_line, Whole, Placed};
 ghost use Rattle.text.specs.Counted.{told_two, told_three, one_of, two_of, three_of};
 ghost use Rattle.text.specs.Numbers.{digit_of, number_of, NumberWords};
 
@@ -154,7 +155,7 @@ impl<'a> Parts<'a> {
 impl<'a> Iterator for Parts<'a> {
     type Item = Part<'a>;
 
-    ghost next_gives = { GivesNext };
+    ghost next_gives = { GivesFirst told left };
 
     ghost remaining = { item_count left };
 
