@@ -5,7 +5,7 @@ ghost use Rattle.rules.specs.Changes.{fault_number};
 
 /// One change of a rule book. Stages, labels and marks are as the sheet has them: whether they are in
 /// range is for the book to say.
-#[derive(Clone, Copy)]
+#[derive(Clone, Copy, Debug, PartialEq, Eq)]
 pub enum Change {
     /// Makes a stage live, with a mark.
     Stage { stage: u16, mark: u16 },
@@ -20,7 +20,7 @@ pub enum Change {
 }
 
 /// Why a rule book declines a change, in the order in which the conditions are looked for.
-#[derive(Clone, Copy)]
+#[derive(Clone, Copy, Debug, PartialEq, Eq)]
 pub enum BookFault {
     /// A stage not below the width, a label that is no event nor 0, or a mark above 7.
     OutOfRange,

@@ -2,6 +2,8 @@
 use Rattle.std.specs.Prelude.{ℕ, Ok, Err, Result}
 use Rattle.text.specs.declared.parts.Place.{Place}
 use Rattle.rules.specs.Changes.{fault_number}
+use Rattle.sheet_faults.specs.declared.Layer.{Layer}
+use Rattle.sheet_faults.specs.declared.Layer.TheVariants as layer
 use Rattle.sheet_faults.specs.declared.WordFault.{WordFault}
 use Rattle.sheet_faults.specs.declared.WordFault.TheVariants.{UnknownKeyword, NotANumber}
 use Rattle.sheet_faults.specs.declared.LineFault.{LineFault}
@@ -43,11 +45,16 @@ sheet_number TooLong = 11
 sheet_number (Line l) = line_number l
 sheet_number (Book d) = declined_number d
 
--- The text's faults are of layer 1, and the book's of layer 2.
-abbrev pub sheet_layer : SheetFault → ℕ
-sheet_layer TooLong = 1
-sheet_layer (Line l) = 1
-sheet_layer (Book d) = 2
+-- The number by which each layer is told.
+abbrev pub layer_number : Layer → ℕ
+layer_number layer.Text = 1
+layer_number layer.Book = 2
+
+-- The text's faults are of one layer, and the book's of another.
+abbrev pub sheet_layer : SheetFault → Layer
+sheet_layer TooLong = layer.Text
+sheet_layer (Line l) = layer.Text
+sheet_layer (Book d) = layer.Book
 
 abbrev pub sheet_place : SheetFault → Place
 sheet_place TooLong = record { line = 0; offset = 0 }

@@ -5,13 +5,13 @@
 ghost use Rattle.std.specs.Prelude.{◌≡◌};
 ghost use Rattle.sheet_faults.specs.declared.LineFault.TheVariants.{Word as InWord};
 ghost use Rattle.sheet_faults.specs.declared.SheetFault.TheVariants.{Line as InLine, Book as InBook};
-ghost use Rattle.sheet_faults.specs.Faults.{word_number, word_place, line_number, line_place, declined_number, declined_place, sheet_number, sheet_layer, sheet_place};
+ghost use Rattle.sheet_faults.specs.Faults.{word_number, word_place, line_number, line_place, declined_number, declined_place, sheet_number, layer_number, sheet_layer, sheet_place};
 
 use rules::BookFault;
 use text::Place;
 
 /// A word that is not what its line needs there, with the word's place in the sheet.
-#[derive(Clone, Copy)]
+#[derive(Clone, Copy, Debug, PartialEq, Eq)]
 pub enum WordFault {
     /// The first word is none of `stage`, `drop`, `arc`, `cut` and `mark`.
     UnknownKeyword(Place),
@@ -20,7 +20,7 @@ pub enum WordFault {
 }
 
 /// Why a line asks for no change that can be taken up.
-#[derive(Clone, Copy)]
+#[derive(Clone, Copy, Debug, PartialEq, Eq)]
 pub enum LineFault {
     /// One of its words is wrong.
     Word(WordFault),
@@ -31,14 +31,14 @@ pub enum LineFault {
 }
 
 /// A change that the rule book declines, with the place of the line that asks for it.
-#[derive(Clone, Copy)]
+#[derive(Clone, Copy, Debug, PartialEq, Eq)]
 pub struct Declined {
     pub fault: BookFault,
     pub place: Place,
 }
 
 /// Why a sheet is refused. Reading gives the first two; the third is for the code that makes the changes.
-#[derive(Clone, Copy)]
+#[derive(Clone, Copy, Debug, PartialEq, Eq)]
 pub enum SheetFault {
     /// It has more than 4,096 bytes.
     TooLong,
@@ -46,6 +46,15 @@ pub enum SheetFault {
     Line(LineFault),
     /// The rule book declines a change.
     Book(Declined),
+}
+
+/// What refuses a sheet, with the number by which it is told.
+#[derive(Clone, Copy, Debug, PartialEq, Eq)]
+pub enum Layer {
+    /// The reading of its text.
+    Text = 1,
+    /// The rule book.
+    Book = 2,
 }
 
 /// For `?`: a wrong word makes its line wrong.
@@ -75,6 +84,15 @@ impl From<Declined> for SheetFault {
     }
 }
 
+impl Layer {
+    /// The number by which the layer is told: 1 or 2.
+    pub fn number(self) -> u8
+        ensures { result ≡ layer_number self }
+    {
+        self as u8
+    }
+}
+
 impl WordFault {
     /// The number by which the fault is told: 12 or 14.
     pub fn number(&self) -> u8
@@ -91,8 +109,7 @@ impl WordFault {
         ensures { result ≡ word_place self.now }
     {
         match self {
-            WordFault::UnknownKeyword(place) => *place,
-            WordFault::NotANumber(place) => *place,
+            WordFault::UnknownKeyword(place) | WordFault::NotANumber(place) => *place,
         }
     }
 }
@@ -115,8 +132,7 @@ impl LineFault {
     {
         match self {
             LineFault::Word(word) => word.place(),
-            LineFault::WordCount(place) => *place,
-            LineFault::TooManyChanges(place) => *place,
+            LineFault::WordCount(place) | LineFault::TooManyChanges(place) => *place,
         }
     }
 }
@@ -149,14 +165,13 @@ impl SheetFault {
         }
     }
 
-    /// What refuses the sheet: 1 for the reading of its text, 2 for the rule book.
-    pub fn layer(&self) -> u8
+    /// What refuses the sheet.
+    pub fn layer(&self) -> Layer
         ensures { result ≡ sheet_layer self.now }
     {
         match self {
-            SheetFault::TooLong => 1,
-            SheetFault::Line(_) => 1,
-            SheetFault::Book(_) => 2,
+            SheetFault::TooLong | SheetFault::Line(_) => Layer::Text,
+            SheetFault::Book(_) => Layer::Book,
         }
     }
 
