@@ -1,5 +1,6 @@
 -- A line is read as a change exactly if it is the line of that change.
-use Rattle.std.proofs.Common.{◌≡◌, ℕ, ◌<◌, Bool, true, false, cond, List, [], ◌∷◌, ◌++◌, Some, None, Ok, Err, codes, decimal, Option, Result, sym, refl, ap, ◌∙◌, subst, arith}
+use Rattle.std.proofs.Common.{◌≡◌, ℕ, ◌<◌, Bool, true, false, cond, List, [], ◌∷◌, ◌++◌, Some, None, Ok, Err, codes, decimal, Option, option_map, Result, sym, refl, ap, ◌∙◌, subst, arith}
+use Rattle.std.specs.Option.{ok_or}
 use Rattle.std.specs.Str.{bytes_eq}
 use Rattle.std.proofs.lemmas.Slice.Eq.{bytes_eq-Decides}
 use Rattle.text.specs.declared.parts.Place.{Place}
@@ -94,6 +95,16 @@ over_ok : {A B E : Type 0} (r : Result A E) (f : A → B) (y : B) → over f r �
 over_ok (Ok x) f y h = (x, refl, ok_same (f x) y h)
 over_ok (Err e) f y h = absurd (err_ok e y h)
 
+some_same : {A : Type 0} (x y : A) → Some x ≡ Some y → x ≡ y
+some_same x y h = cc
+
+none_some : {A : Type 0} (x : A) → ◌≡◌ {A = Option A} None (Some x) → ⊥
+none_some x h = let z : ◌≡◌ {A = ℕ} 0 1 = cc in omega arith
+
+ok_or_ok : {A E : Type 0} (o : Option A) (e : E) (x : A) → ok_or o e ≡ Ok x → o ≡ Some x
+ok_or_ok None e x h = absurd (err_ok e x h)
+ok_or_ok {A = A} (Some y) e x h = ap {B = Option A} Some (ok_same y x h)
+
 in_line_ok : {A : Type 0} (r : Result A WordFault) (x : A) → in_line r ≡ Ok x → r ≡ Ok x
 in_line_ok {A = A} (Ok y) x h = ap {B = Result A WordFault} Ok (ok_same y x h)
 in_line_ok (Err w) x h = absurd (err_ok _ x h)
@@ -159,23 +170,27 @@ numbered_ok (mark n m) ch h =
     let b = two_ok n m a.0 a.1 in
     subst (Line (form_text (mark n m))) a.2 ((λ i. codes "mark" ++ (32 ∷ (b.0.text i ++ (32 ∷ b.1.text i)))), (b.0.small, b.1.small))
 
+option_map_some : {A B : Type 0} (o : Option A) (f : A → B) (y : B) → option_map f o ≡ Some y → (x : A) × (o ≡ Some x) × (f x ≡ y)
+option_map_some None f y h = absurd (none_some y h)
+option_map_some (Some x) f y h = (x, refl, some_same (f x) y h)
+
 -- words
-one_of_ok : (p : LineFault) (ws : List Told) (w : Told) → one_of p ws ≡ Ok w → ws ≡ w ∷ []
-one_of_ok p [] w h = absurd (err_ok _ w h)
-one_of_ok p (a ∷ []) w h = ap (λ (x : Told). x ∷ []) (ok_same a w h)
-one_of_ok p (a ∷ b ∷ ws) w h = absurd (err_ok _ w h)
+one_of_some : (ws : List Told) (w : Told) → one_of ws ≡ Some w → ws ≡ w ∷ []
+one_of_some [] w h = absurd (none_some w h)
+one_of_some (a ∷ []) w h = ap (λ (x : Told). x ∷ []) (some_same a w h)
+one_of_some (a ∷ b ∷ ws) w h = absurd (none_some w h)
 
-two_of_ok : (p : LineFault) (ws : List Told) (w : Told × Told) → two_of p ws ≡ Ok w → ws ≡ w.0 ∷ w.1 ∷ []
-two_of_ok p [] w h = absurd (err_ok _ w h)
-two_of_ok p (a ∷ []) w h = absurd (err_ok _ w h)
-two_of_ok p (a ∷ b ∷ []) w h = ap (λ (x : Told × Told). x.0 ∷ x.1 ∷ []) (ok_same (a, b) w h)
-two_of_ok p (a ∷ b ∷ c ∷ ws) w h = absurd (err_ok _ w h)
+two_of_some : (ws : List Told) (w : Told × Told) → two_of ws ≡ Some w → ws ≡ w.0 ∷ w.1 ∷ []
+two_of_some [] w h = absurd (none_some w h)
+two_of_some (a ∷ ws) w h =
+    let b = option_map_some (one_of ws) (λ (x : Told). (a, x)) w h in
+    ap (λ (xs : List Told). a ∷ xs) (one_of_some ws b.0 b.1) ∙ ap (λ (x : Told × Told). x.0 ∷ x.1 ∷ []) b.2
 
-three_of_ok : (p : LineFault) (ws : List Told) (w : Told × Told × Told) → three_of p ws ≡ Ok w → ws ≡ w.0 ∷ w.1 ∷ w.2 ∷ []
-three_of_ok p [] w h = absurd (err_ok _ w h)
-three_of_ok p (a ∷ ws) w h =
-    let b = over_ok (two_of p ws) (λ (x : Told × Told). (a, x.0, x.1)) w h in
-    ap (λ (xs : List Told). a ∷ xs) (two_of_ok p ws b.0 b.1) ∙ ap (λ (x : Told × Told × Told). x.0 ∷ x.1 ∷ x.2 ∷ []) b.2
+three_of_some : (ws : List Told) (w : Told × Told × Told) → three_of ws ≡ Some w → ws ≡ w.0 ∷ w.1 ∷ w.2 ∷ []
+three_of_some [] w h = absurd (none_some w h)
+three_of_some (a ∷ ws) w h =
+    let b = option_map_some (two_of ws) (λ (x : Told × Told). (a, x.0, x.1)) w h in
+    ap (λ (xs : List Told). a ∷ xs) (two_of_some ws b.0 b.1) ∙ ap (λ (x : Told × Told × Told). x.0 ∷ x.1 ∷ x.2 ∷ []) b.2
 
 abbrev key_text : Keyword → List ℕ
 key_text keyword.Stage = codes "stage"
@@ -216,22 +231,22 @@ three_joined : (h u v w : Told) (ws : List Told) (key : List ℕ) → h.text ≡
 three_joined h u v w ws key e f =
     ap (λ (xs : List Told). joined 32 (h ∷ xs)) f ∙ ap (λ (x : List ℕ). x ++ (32 ∷ (u.text ++ (32 ∷ (v.text ++ (32 ∷ w.text)))))) e
 
-form_ok : (p : Place) (h : Told) (ws : List Told) (k : Keyword) (form : ToldLine) → h.text ≡ key_text k → form_of p ws k ≡ Ok form → joined 32 (h ∷ ws) ≡ form_text form
-form_ok p h ws keyword.Stage form e f =
-    let a = over_ok (two_of (WordCount p) ws) (λ (w : Told × Told). stage w.0 w.1) form f in
-    two_joined h a.0.0 a.0.1 ws (codes "stage") e (two_of_ok (WordCount p) ws a.0 a.1) ∙ ap form_text a.2
-form_ok p h ws keyword.Drop form e f =
-    let a = over_ok (one_of (WordCount p) ws) dropped form f in
-    one_joined h a.0 ws (codes "drop") e (one_of_ok (WordCount p) ws a.0 a.1) ∙ ap form_text a.2
-form_ok p h ws keyword.Arc form e f =
-    let a = over_ok (three_of (WordCount p) ws) (λ (w : Told × Told × Told). arc w.0 w.1 w.2) form f in
-    three_joined h a.0.0 a.0.1 a.0.2 ws (codes "arc") e (three_of_ok (WordCount p) ws a.0 a.1) ∙ ap form_text a.2
-form_ok p h ws keyword.Cut form e f =
-    let a = over_ok (three_of (WordCount p) ws) (λ (w : Told × Told × Told). cut w.0 w.1 w.2) form f in
-    three_joined h a.0.0 a.0.1 a.0.2 ws (codes "cut") e (three_of_ok (WordCount p) ws a.0 a.1) ∙ ap form_text a.2
-form_ok p h ws keyword.Mark form e f =
-    let a = over_ok (two_of (WordCount p) ws) (λ (w : Told × Told). mark w.0 w.1) form f in
-    two_joined h a.0.0 a.0.1 ws (codes "mark") e (two_of_ok (WordCount p) ws a.0 a.1) ∙ ap form_text a.2
+form_some : (h : Told) (ws : List Told) (k : Keyword) (form : ToldLine) → h.text ≡ key_text k → form_of ws k ≡ Some form → joined 32 (h ∷ ws) ≡ form_text form
+form_some h ws keyword.Stage form e f =
+    let a = option_map_some (two_of ws) (λ (w : Told × Told). stage w.0 w.1) form f in
+    two_joined h a.0.0 a.0.1 ws (codes "stage") e (two_of_some ws a.0 a.1) ∙ ap form_text a.2
+form_some h ws keyword.Drop form e f =
+    let a = option_map_some (one_of ws) dropped form f in
+    one_joined h a.0 ws (codes "drop") e (one_of_some ws a.0 a.1) ∙ ap form_text a.2
+form_some h ws keyword.Arc form e f =
+    let a = option_map_some (three_of ws) (λ (w : Told × Told × Told). arc w.0 w.1 w.2) form f in
+    three_joined h a.0.0 a.0.1 a.0.2 ws (codes "arc") e (three_of_some ws a.0 a.1) ∙ ap form_text a.2
+form_some h ws keyword.Cut form e f =
+    let a = option_map_some (three_of ws) (λ (w : Told × Told × Told). cut w.0 w.1 w.2) form f in
+    three_joined h a.0.0 a.0.1 a.0.2 ws (codes "cut") e (three_of_some ws a.0 a.1) ∙ ap form_text a.2
+form_some h ws keyword.Mark form e f =
+    let a = option_map_some (two_of ws) (λ (w : Told × Told). mark w.0 w.1) form f in
+    two_joined h a.0.0 a.0.1 ws (codes "mark") e (two_of_some ws a.0 a.1) ∙ ap form_text a.2
 
 line_ok : (l : Told) (form : ToldLine) → line_of l ≡ Ok form → l.text ≡ form_text form
 line_ok l form h = sym (whole 32 0 l.place.line l.place.offset l.text).back ∙ go (words l) h
@@ -239,8 +254,8 @@ line_ok l form h = sym (whole 32 0 l.place.line l.place.offset l.text).back ∙ 
     go : (ws : List Told) → from_words l.place ws ≡ Ok form → joined 32 ws ≡ form_text form
     go [] e = absurd (err_ok _ form e)
     go (w ∷ ws) e =
-        let a = and_then_ok (in_line (keyword_of w)) (form_of l.place ws) form e in
-        form_ok l.place w ws a.0 form (keyword_ok w a.0 (in_line_ok (keyword_of w) a.0 a.1)) a.2
+        let a = and_then_ok (in_line (keyword_of w)) (λ k. ok_or (form_of ws k) (WordCount l.place)) form e in
+        form_some w ws a.0 form (keyword_ok w a.0 (in_line_ok (keyword_of w) a.0 a.1)) (ok_or_ok (form_of ws a.0) (WordCount l.place) form a.2)
 
 pub line_read : (l : Told) (item : PlacedChange) → placed_of l ≡ Ok item → LineOf l item
 line_read l item h =

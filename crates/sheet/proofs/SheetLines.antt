@@ -1,7 +1,7 @@
 -- A sheet is read exactly if its lines that are not skipped are those of changes.
 use Rattle.std.proofs.Common.{◌≡◌, ◌+◌, ◌<◌, ◌≤◌, Bool, true, false, cond, ltb, List, [], ◌∷◌, ◌++◌, length, Ok, Err, Result, sym, refl, ap, ◌∙◌, subst, inl, inr, append_assoc, append-nil, arith, length-append}
 use Rattle.std.proofs.lemmas.Bool.{ltb-true, ltb-false, lt-ltb, le-ltb}
-use Rattle.text.specs.Split.{Told, lines}
+use Rattle.text.specs.Split.{Told, lines, is_skipped_line}
 use Rattle.rules.specs.declared.change.Change.{Change}
 use Rattle.rules.specs.declared.change.Change.TheVariants.{Stage, Drop, Arc, Cut, Mark}
 use Rattle.rules.specs.ChangeLines.{change_line}
@@ -12,7 +12,7 @@ use Rattle.sheet_faults.specs.declared.SheetFault.TheVariants.{TooLong}
 use Rattle.sheet_faults.specs.Faults.{in_sheet}
 use Rattle.sheet.specs.declared.changes.PlacedChange.{PlacedChange}
 use Rattle.text.specs.Outcomes.{and_then}
-use Rattle.sheet.specs.Sheets.{is_skipped_line, placed_of, pushed, sheet_from, sheet_of}
+use Rattle.sheet.specs.Sheets.{placed_of, pushed, sheet_from, sheet_of}
 use Rattle.sheet.specs.Laws.{LineOf, LinesOf, ReadExactly}
 use Rattle.sheet.proofs.LineForms.{ok_same, err_ok, and_then_ok, reads_line, line_read}
 

@@ -1,9 +1,9 @@
 -- What it means that a sheet is read.
 use Rattle.std.specs.Prelude.{◌≡◌, ℕ, ◌≤◌, true, ◌⊎◌, ◌↔◌, List, [], ◌∷◌, length, Ok}
-use Rattle.text.specs.Split.{Told, lines}
+use Rattle.text.specs.Split.{Told, lines, is_skipped_line}
 use Rattle.rules.specs.ChangeLines.{change_line, Small}
 use Rattle.sheet.specs.declared.changes.PlacedChange.{PlacedChange}
-use Rattle.sheet.specs.Sheets.{is_skipped_line, sheet_of}
+use Rattle.sheet.specs.Sheets.{sheet_of}
 
 -- The line is that of the change, which has its place.
 pub record LineOf (l : Told) (item : PlacedChange) : Type 0 where

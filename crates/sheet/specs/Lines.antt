@@ -1,5 +1,6 @@
 -- The five forms of a line, and the change that a line asks for.
-use Rattle.std.specs.Prelude.{ℕ, cond, List, [], ◌∷◌, Some, None, Ok, Err, codes, Option, Result}
+use Rattle.std.specs.Prelude.{ℕ, cond, List, [], ◌∷◌, Some, None, Ok, Err, codes, Option, option_map, Result}
+use Rattle.std.specs.Option.{ok_or}
 use Rattle.std.specs.Str.{bytes_eq}
 use Rattle.text.specs.declared.parts.Place.{Place}
 use Rattle.text.specs.Split.{Told, told, words}
@@ -43,18 +44,18 @@ keyword_of w =
     (cond (bytes_eq w.text (codes "cut")) (Ok keyword.Cut)
     (cond (bytes_eq w.text (codes "mark")) (Ok keyword.Mark) (Err (UnknownKeyword w.place))))))
 
--- The form that a keyword gives a line, from the words behind it.
-abbrev pub form_of : Place → List Told → Keyword → Result ToldLine LineFault
-form_of p ws keyword.Stage = over (λ w. stage w.0 w.1) (two_of (WordCount p) ws)
-form_of p ws keyword.Drop = over dropped (one_of (WordCount p) ws)
-form_of p ws keyword.Arc = over (λ w. arc w.0 w.1 w.2) (three_of (WordCount p) ws)
-form_of p ws keyword.Cut = over (λ w. cut w.0 w.1 w.2) (three_of (WordCount p) ws)
-form_of p ws keyword.Mark = over (λ w. mark w.0 w.1) (two_of (WordCount p) ws)
+-- The form that a keyword gives a line, from the words behind it; absent for a wrong count of words.
+abbrev pub form_of : List Told → Keyword → Option ToldLine
+form_of ws keyword.Stage = option_map (λ w. stage w.0 w.1) (two_of ws)
+form_of ws keyword.Drop = option_map dropped (one_of ws)
+form_of ws keyword.Arc = option_map (λ w. arc w.0 w.1 w.2) (three_of ws)
+form_of ws keyword.Cut = option_map (λ w. cut w.0 w.1 w.2) (three_of ws)
+form_of ws keyword.Mark = option_map (λ w. mark w.0 w.1) (two_of ws)
 
--- A line's form from its words; there is always a first one.
+-- A line's form from its words, of which there is always a first one: 12 for that, and then 13.
 abbrev pub from_words : Place → List Told → Result ToldLine LineFault
 from_words p [] = Err (WordCount p)
-from_words p (h ∷ ws) = and_then (in_line (keyword_of h)) (form_of p ws)
+from_words p (h ∷ ws) = and_then (in_line (keyword_of h)) (λ k. ok_or (form_of ws k) (WordCount p))
 
 -- The form of a line: first 12, then 13.
 abbrev pub line_of : Told → Result ToldLine LineFault

@@ -1,6 +1,6 @@
 -- The changes that a sheet asks for.
-use Rattle.std.specs.Prelude.{ℕ, Bool, true, cond, List, [], ◌∷◌, ◌++◌, length, take, Ok, Err, Result, ◌==◌, nat_lt}
-use Rattle.text.specs.Split.{Told, lines}
+use Rattle.std.specs.Prelude.{ℕ, cond, List, [], ◌∷◌, ◌++◌, length, take, Ok, Err, Result, nat_lt}
+use Rattle.text.specs.Split.{Told, lines, is_skipped_line}
 use Rattle.sheet_faults.specs.declared.LineFault.{LineFault}
 use Rattle.sheet_faults.specs.declared.LineFault.TheVariants.{TooManyChanges}
 use Rattle.sheet_faults.specs.declared.SheetFault.{SheetFault}
@@ -14,11 +14,6 @@ use Rattle.sheet.specs.Lines.{line_of, change_of}
 -- The changes that a `Changes` holds, in order.
 abbrev pub items_of : Changes → List PlacedChange
 items_of c = take c.count c.items
-
--- An empty line is skipped, and one whose first byte is 35, a #.
-abbrev pub is_skipped_line : List ℕ → Bool
-is_skipped_line [] = true
-is_skipped_line (b ∷ bs) = b == 35
 
 -- The change that a line asks for, with the place of the line: first 12, then 13, then 14.
 abbrev pub placed_of : Told → Result PlacedChange LineFault

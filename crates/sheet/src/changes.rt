@@ -9,13 +9,14 @@ use text::Place;
 pub const MAX_CHANGES: usize = 64;
 
 /// A change and the place, in the sheet, of the line that asks for it.
-#[derive(Clone, Copy)]
+#[derive(Clone, Copy, Debug, PartialEq, Eq)]
 pub struct PlacedChange {
     pub change: Change,
     pub place: Place,
 }
 
 /// The changes that a sheet asks for, in the order of its lines: the first `count` of `items`.
+// Not the library's `ArrayVec`: it asks for a default change, which is none, or for an allocator, and it is not `Copy`.
 #[derive(Clone, Copy)]
 pub struct Changes {
     pub(crate) items: [PlacedChange; MAX_CHANGES],

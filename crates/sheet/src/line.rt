@@ -1,16 +1,13 @@
 //! One line of a sheet, from its words to the change that it asks for.
 
-ghost use Rattle.std.specs.Prelude.{◌≡◌, [], ◌∷◌, MatchResult};
-ghost use Rattle.std.specs.Str.{bytes_eq};
+ghost use Rattle.std.specs.Prelude.{◌≡◌, option_map};
 ghost use Rattle.text.specs.Split.{told, left};
-ghost use Rattle.sheet_faults.specs.declared.LineFault.TheVariants.{WordCount};
 ghost use Rattle.text.specs.Outcomes.{over};
-ghost use Rattle.text.specs.Counted.{told_two, told_three, none_of, one_of, two_of, three_of};
-ghost use Rattle.sheet.specs.Lines.{told_line, keyword_of, form_of, line_of, number_of_word, two_numbers_of, three_numbers_of, change_of};
+ghost use Rattle.sheet.specs.Lines.{told_line, keyword_of, form_of, line_of, number_of_word, numbered, change_of};
 
 use rules::Change;
 use sheet_faults::{LineFault, WordFault};
-use text::{Part, Parts, Place, number};
+use text::{Part, Parts, number};
 
 /// A line of the right form. It borrows its words from the sheet; whether they are number words is not yet known.
 #[derive(Clone, Copy)]
@@ -44,7 +41,7 @@ pub enum Line<'a> {
 }
 
 /// The words that a line may begin with.
-#[derive(Clone, Copy)]
+#[derive(Clone, Copy, Debug, PartialEq, Eq)]
 pub(crate) enum Keyword {
     Stage,
     Drop,
@@ -53,105 +50,37 @@ pub(crate) enum Keyword {
     Mark,
 }
 
-/// Whether a word is this one, byte by byte.
-fn is(text: &[u8], name: &[u8]) -> bool
-    ensures { result ≡ bytes_eq text.now name.now }
-{
-    text == name
-}
+impl<'a> TryFrom<Part<'a>> for Keyword {
+    type Error = WordFault;
 
-/// The keyword that a line's first word is.
-fn read_keyword(word: Part) -> Result<Keyword, WordFault>
-    ensures { result ≡ keyword_of (told word.entry) }
-{
-    let text = word.text();
-    if is(text, b"stage") {
-        Ok(Keyword::Stage)
-    } else if is(text, b"drop") {
-        Ok(Keyword::Drop)
-    } else if is(text, b"arc") {
-        Ok(Keyword::Arc)
-    } else if is(text, b"cut") {
-        Ok(Keyword::Cut)
-    } else if is(text, b"mark") {
-        Ok(Keyword::Mark)
-    } else {
-        Err(WordFault::UnknownKeyword(word.place))
+    ghost try_from_gives = { λ word r. r ≡ keyword_of (told word) };
+
+    fn try_from(word: Part<'a>) -> Result<Keyword, WordFault> {
+        match word.text() {
+            b"stage" => Ok(Keyword::Stage),
+            b"drop" => Ok(Keyword::Drop),
+            b"arc" => Ok(Keyword::Arc),
+            b"cut" => Ok(Keyword::Cut),
+            b"mark" => Ok(Keyword::Mark),
+            _ => Err(WordFault::UnknownKeyword(word.place)),
+        }
     }
 }
 
-/// The next word, which the line must have.
-fn next_word<'a>(words: &mut Parts<'a>, line: Place) -> Result<Part<'a>, LineFault>
-    ensures { MatchResult result (λ w. told w ∷ left words.new ≡ left words.old) (λ e. (e ≡ WordCount line) × (left words.old ≡ [])) }
-{
-    words.next().ok_or(LineFault::WordCount(line))
-}
-
-/// That no word is left.
-fn no_word(mut words: Parts, line: Place) -> Result<(), LineFault>
-    ensures { result ≡ none_of (WordCount line) (left words.entry) }
-{
-    match words.next() {
-        None => Ok(()),
-        Some(_) => Err(LineFault::WordCount(line)),
-    }
-}
-
-/// The only word that is left.
-fn one_word<'a>(mut words: Parts<'a>, line: Place) -> Result<Part<'a>, LineFault>
-    ensures { over told result ≡ one_of (WordCount line) (left words.entry) }
-{
-    let only = next_word(&mut words, line)?;
-    no_word(words, line)?;
-    Ok(only)
-}
-
-/// The two words that are left.
-fn two_words<'a>(mut words: Parts<'a>, line: Place) -> Result<(Part<'a>, Part<'a>), LineFault>
-    ensures { over told_two result ≡ two_of (WordCount line) (left words.entry) }
-{
-    let first = next_word(&mut words, line)?;
-    let second = one_word(words, line)?;
-    Ok((first, second))
-}
-
-/// The three words that are left.
-fn three_words<'a>(
-    mut words: Parts<'a>,
-    line: Place,
-) -> Result<(Part<'a>, Part<'a>, Part<'a>), LineFault>
-    ensures { over told_three result ≡ three_of (WordCount line) (left words.entry) }
-{
-    let first = next_word(&mut words, line)?;
-    let (second, third) = two_words(words, line)?;
-    Ok((first, second, third))
-}
-
-/// The line that begins with this keyword, from the words behind it.
-fn read_form<'a>(keyword: Keyword, words: Parts<'a>, line: Place) -> Result<Line<'a>, LineFault>
-    ensures { over told_line result ≡ form_of line (left words.entry) keyword }
+/// The line that begins with this keyword, from the words behind it. Absent if they are too few or too many.
+fn read_form<'a>(keyword: Keyword, words: Parts<'a>) -> Option<Line<'a>>
+    ensures { option_map told_line result ≡ form_of (left words.entry) keyword }
 {
     match keyword {
-        Keyword::Stage => {
-            let (stage, mark) = two_words(words, line)?;
-            Ok(Line::Stage { stage, mark })
-        }
-        Keyword::Drop => {
-            let stage = one_word(words, line)?;
-            Ok(Line::Drop { stage })
-        }
-        Keyword::Arc => {
-            let (from, label, to) = three_words(words, line)?;
-            Ok(Line::Arc { from, label, to })
-        }
-        Keyword::Cut => {
-            let (from, label, to) = three_words(words, line)?;
-            Ok(Line::Cut { from, label, to })
-        }
-        Keyword::Mark => {
-            let (stage, mark) = two_words(words, line)?;
-            Ok(Line::Mark { stage, mark })
-        }
+        Keyword::Stage => words.two().map(|(stage, mark)| Line::Stage { stage, mark }),
+        Keyword::Drop => words.one().map(|stage| Line::Drop { stage }),
+        Keyword::Arc => words
+            .three()
+            .map(|(from, label, to)| Line::Arc { from, label, to }),
+        Keyword::Cut => words
+            .three()
+            .map(|(from, label, to)| Line::Cut { from, label, to }),
+        Keyword::Mark => words.two().map(|(stage, mark)| Line::Mark { stage, mark }),
     }
 }
 
@@ -159,10 +88,11 @@ fn read_form<'a>(keyword: Keyword, words: Parts<'a>, line: Place) -> Result<Line
 pub fn read_line<'a>(line: Part<'a>) -> Result<Line<'a>, LineFault>
     ensures { over told_line result ≡ line_of (told line.entry) }
 {
+    let wrong_count = LineFault::WordCount(line.place);
     let mut words = Parts::words(line);
-    let first = next_word(&mut words, line.place)?;
-    let keyword = read_keyword(first)?;
-    read_form(keyword, words, line.place)
+    let first = words.next().ok_or(wrong_count)?;
+    let keyword = Keyword::try_from(first)?;
+    read_form(keyword, words).ok_or(wrong_count)
 }
 
 /// The number that a word is.
@@ -172,32 +102,21 @@ fn number_at(word: Part) -> Result<u16, WordFault>
     number(word.text()).ok_or(WordFault::NotANumber(word.place))
 }
 
-/// The numbers that two words are.
-fn two_numbers(first: Part, second: Part) -> Result<(u16, u16), WordFault>
-    ensures { result ≡ two_numbers_of (told first.entry) (told second.entry) }
-{
-    let one = number_at(first)?;
-    let other = number_at(second)?;
-    Ok((one, other))
-}
-
-/// The numbers that three words are.
-fn three_numbers(first: Part, second: Part, third: Part) -> Result<(u16, u16, u16), WordFault>
-    ensures { result ≡ three_numbers_of (told first.entry) (told second.entry) (told third.entry) }
-{
-    let one = number_at(first)?;
-    let (two, three) = two_numbers(second, third)?;
-    Ok((one, two, three))
-}
-
 impl<'a> Line<'a> {
     /// The change that the line asks for. Its first word that is no number word is the fault.
     pub fn change(self) -> Result<Change, LineFault>
         ensures { result ≡ change_of (told_line self.entry) }
     {
+        Ok(self.numbered()?)
+    }
+
+    fn numbered(self) -> Result<Change, WordFault>
+        ensures { result ≡ numbered (told_line self.entry) }
+    {
         match self {
             Line::Stage { stage, mark } => {
-                let (stage, mark) = two_numbers(stage, mark)?;
+                let stage = number_at(stage)?;
+                let mark = number_at(mark)?;
                 Ok(Change::Stage { stage, mark })
             }
             Line::Drop { stage } => {
@@ -205,15 +124,20 @@ impl<'a> Line<'a> {
                 Ok(Change::Drop { stage })
             }
             Line::Arc { from, label, to } => {
-                let (from, label, to) = three_numbers(from, label, to)?;
+                let from = number_at(from)?;
+                let label = number_at(label)?;
+                let to = number_at(to)?;
                 Ok(Change::Arc { from, label, to })
             }
             Line::Cut { from, label, to } => {
-                let (from, label, to) = three_numbers(from, label, to)?;
+                let from = number_at(from)?;
+                let label = number_at(label)?;
+                let to = number_at(to)?;
                 Ok(Change::Cut { from, label, to })
             }
             Line::Mark { stage, mark } => {
-                let (stage, mark) = two_numbers(stage, mark)?;
+                let stage = number_at(stage)?;
+                let mark = number_at(mark)?;
                 Ok(Change::Mark { stage, mark })
             }
         }

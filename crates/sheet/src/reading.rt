@@ -4,7 +4,7 @@ ghost use Rattle.std.specs.Prelude.{◌≡◌, [], Ok, Err, MatchResult};
 ghost use Rattle.text.specs.Split.{told, lines};
 ghost use Rattle.text.specs.Outcomes.{over};
 ghost use Rattle.sheet.specs.Laws.{ReadExactly};
-ghost use Rattle.sheet.specs.Sheets.{is_skipped_line, placed_of, items_of, pushed, sheet_from, sheet_of};
+ghost use Rattle.sheet.specs.Sheets.{placed_of, items_of, pushed, sheet_from, sheet_of};
 
 use crate::changes::{Changes, MAX_CHANGES, PlacedChange};
 use crate::line::read_line;
@@ -34,7 +34,7 @@ impl Changes {
     pub fn as_slice(&self) -> &[PlacedChange]
         ensures { result.now ≡ items_of self.now }
     {
-        &self.items[0..self.count]
+        &self.items[..self.count]
     }
 
     /// Adds a change behind the others; a 65th is refused, and nothing altered.
@@ -47,16 +47,6 @@ impl Changes {
         self.items[self.count] = item;
         self.count += 1;
         Ok(())
-    }
-}
-
-/// Whether a line is skipped: it is empty or begins with `#`.
-fn is_skipped(line: &[u8]) -> bool
-    ensures { result ≡ is_skipped_line line.now }
-{
-    match line {
-        [] => true,
-        [first, ..] => *first == b'#',
     }
 }
 
@@ -76,9 +66,8 @@ fn read_lines(sheet: &[u8]) -> Result<Changes, LineFault>
     ensures { over items_of result ≡ sheet_from [] (lines sheet.now) }
 {
     let mut changes = Changes::new();
-    let mut lines = Parts::lines(sheet);
-    while let Some(line) = lines.next() {
-        if !is_skipped(line.text()) {
+    for line in Parts::lines(sheet) {
+        if !line.is_skipped() {
             changes.push(read_change(line)?)?;
         }
     }
