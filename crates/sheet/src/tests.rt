@@ -17,7 +17,7 @@ fn tells(
     offset: usize,
 ) -> Result<(), Fail> {
     assert!(rt; fault.number() == number);
-    assert!(rt; fault.layer() == layer);
+    assert!(rt; fault.layer().number() == layer);
     assert!(rt; fault.place() == Place { line, offset });
     Ok(())
 }
