@@ -1,18 +1,21 @@
 -- Every start that a line gives is a stage. Assumes nothing.
 use Rattle.std.proofs.Common.{◌≡◌, ℕ, ◌<◌, Bool, true, false, cond, ltb, List, [], ◌∷◌, Some, None, Ok, Err, codes, Option, Result, refl}
 use Rattle.std.specs.List.{AllByRecursion as All}
+use Rattle.std.specs.Option.{ok_or}
 use Rattle.std.specs.Str.{bytes_eq}
 use Rattle.std.proofs.ByRecursion.{All-append, All-get_or}
 use Rattle.std.proofs.lemmas.Bool.{ltb-true, cond_both}
 use Rattle.search.specs.Walks.{Starting}
 use Rattle.text.specs.declared.parts.Place.{Place}
-use Rattle.text.specs.Split.{Told, words}
+use Rattle.text.specs.Split.{Told, words, is_skipped_line}
 use Rattle.text.specs.Numbers.{number_of}
 use Rattle.closure_text.specs.declared.line.Request.{Request}
 use Rattle.closure_text.specs.declared.line.Request.TheVariants.{Start, Arc}
 use Rattle.closure_text.specs.declared.line.LineFault.{LineFault}
-use Rattle.closure_text.specs.declared.line.LineFault.TheVariants.{NotStage}
-use Rattle.closure_text.specs.Lines.{and_then, one_of, two_of, stage_at, stage_of, from_words, skipped, request_of}
+use Rattle.closure_text.specs.declared.line.LineFault.TheVariants.{WordCount, NotStage}
+use Rattle.text.specs.Counted.{one_of, two_of}
+use Rattle.text.specs.Outcomes.{and_then}
+use Rattle.closure_text.specs.Lines.{stage_at, stage_of, from_words, request_of}
 use Rattle.closure_text.specs.Readings.{starts_in, starts_of}
 
 -- what a line answers, if it is a start, is a stage
@@ -46,11 +49,11 @@ low_two (Err e) = tt
 low_words : (p : Place) (ws : List Told) → Low (from_words p ws)
 low_words p [] = tt
 low_words p (h ∷ ws) =
-    cond_both (bytes_eq h.text (codes "start")) _ _ Low (λ _. low_one (one_of p ws))
-    (λ _. cond_both (bytes_eq h.text (codes "arc")) _ _ Low (λ _. low_two (two_of p ws)) (λ _. tt))
+    cond_both (bytes_eq h.text (codes "start")) _ _ Low (λ _. low_one (ok_or (one_of ws) (WordCount p)))
+    (λ _. cond_both (bytes_eq h.text (codes "arc")) _ _ Low (λ _. low_two (ok_or (two_of ws) (WordCount p))) (λ _. tt))
 
 low_line : (l : Told) → Low (request_of l)
-low_line l = cond_both (skipped l.text) _ _ Low (λ _. tt) (λ _. low_words l.place (words l))
+low_line l = cond_both (is_skipped_line l.text) _ _ Low (λ _. tt) (λ _. low_words l.place (words l))
 
 low_lines : (ls : List Told) → All (λ s. s < 256) (starts_of ls)
 low_lines [] = tt

@@ -9,8 +9,12 @@ use Rattle.closure_text.specs.Lines.{place_of, reason_of}
 use Rattle.closure_text.specs.Readings.{starts_of, arcs_of, faults_of}
 
 -- where a refused line is wrong, and why
+abbrev pub fault_text : LineFault → List ℕ
+fault_text f = codes "line " ++ (decimal (place_of f).line ++ (codes ", byte " ++ (decimal (place_of f).offset ++ (codes ": " ++ reason_of f))))
+
+-- the same as a line
 abbrev pub fault_line : LineFault → List ℕ
-fault_line f = codes "line " ++ (decimal (place_of f).line ++ (codes ", byte " ++ (decimal (place_of f).offset ++ (codes ": " ++ (reason_of f ++ (10 ∷ []))))))
+fault_line f = fault_text f ++ (10 ∷ [])
 
 -- a stage and the fewest silent arcs to it
 abbrev pub stage_line : ℕ → ℕ → List ℕ

@@ -50,8 +50,7 @@ pub fn read(heap: Global, input: &[u8]) -> Result<Reading, AllocError>
     ensures { IfOk result (Reads (lines input.now)) }
 {
     let mut reading = Reading::new(heap);
-    let mut lines = Parts::lines(input);
-    while let Some(line) = lines.next() {
+    for line in Parts::lines(input) {
         reading.add(read_line(line))?;
     }
     Ok(reading)

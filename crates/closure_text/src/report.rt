@@ -11,65 +11,48 @@ use search::breadth_first::NO_DISTANCE;
 use sets::small_set::SmallSet;
 use std::alloc::{AllocError, Global};
 
-/// Writes the line that tells of a refused line.
-fn write_fault(out: &mut String, heap: Global, fault: &LineFault) -> Result<(), AllocError>
-    ensures { OnOk result (string_bytes out.new ≡ string_bytes out.old ++ fault_line fault.now) }
+/// Writes a line for each refused line.
+fn write_faults(out: &mut String, faults: &[LineFault]) -> Result<(), AllocError>
+    ensures { OnOk result (string_bytes out.new ≡ string_bytes out.old ++ flat_map fault_line faults.now) }
 {
-    let place = fault.place();
-    let line = place.line;
-    let offset = place.offset;
-    let reason = fault.reason();
-    let text = format!(in heap; "line {line}, byte {offset}: {reason}\n")?;
-    out.push_str(text.as_str())?;
+    for fault in faults {
+        write!(out, "{fault}\n")?;
+    }
     Ok(())
 }
 
 /// Writes the line that tells of a reached stage.
-fn write_stage(out: &mut String, heap: Global, stage: usize, steps: u16) -> Result<(), AllocError>
+fn write_stage(out: &mut String, stage: usize, steps: u16) -> Result<(), AllocError>
     ensures { OnOk result (string_bytes out.new ≡ string_bytes out.old ++ stage_line stage steps) }
 {
-    let text = format!(in heap; "stage {stage}, silent steps {steps}\n")?;
-    out.push_str(text.as_str())?;
+    write!(out, "stage {stage}, silent steps {steps}\n")
+}
+
+/// Writes a line for each reached stage, in ascending order.
+fn write_stages(out: &mut String, steps: &[u16; 256]) -> Result<(), AllocError>
+    ensures { OnOk result (string_bytes out.new ≡ string_bytes out.old ++ stage_lines 0 steps.now) }
+{
+    for (stage, fewest) in steps.iter().enumerate() {
+        if *fewest != NO_DISTANCE {
+            write_stage(out, stage, *fewest)?;
+        }
+    }
     Ok(())
 }
 
 /// Writes the last line.
 fn write_counts(
     out: &mut String,
-    heap: Global,
     reached: u16,
     starts: usize,
     faults: usize,
 ) -> Result<(), AllocError>
     ensures { OnOk result (string_bytes out.new ≡ string_bytes out.old ++ count_line reached starts faults) }
 {
-    let text = format!(in heap;
+    write!(
+        out,
         "stages reached {reached}, starts {starts}, lines refused {faults}\n"
-    )?;
-    out.push_str(text.as_str())?;
-    Ok(())
-}
-
-/// Writes a line for each refused line.
-fn write_faults(out: &mut String, heap: Global, faults: &[LineFault]) -> Result<(), AllocError>
-    ensures { OnOk result (string_bytes out.new ≡ string_bytes out.old ++ flat_map fault_line faults.now) }
-{
-    for fault in faults {
-        write_fault(out, heap, fault)?;
-    }
-    Ok(())
-}
-
-/// Writes a line for each reached stage, in ascending order.
-fn write_stages(out: &mut String, heap: Global, steps: &[u16; 256]) -> Result<(), AllocError>
-    ensures { OnOk result (string_bytes out.new ≡ string_bytes out.old ++ stage_lines 0 steps.now) }
-{
-    for stage in 0..256 {
-        if steps[stage] != NO_DISTANCE {
-            write_stage(out, heap, stage, steps[stage])?;
-        }
-    }
-    Ok(())
+    )
 }
 
 /// The whole answer: the refused lines, the reached stages, and the counts.
@@ -77,16 +60,10 @@ fn answer(heap: Global, reading: &Reading, steps: &[u16; 256]) -> Result<String,
     ensures { IfOk result (λ s. string_bytes s ≡ answer_of reading.now.faults.items reading.now.starts.items steps.now) }
 {
     let mut out = String::new(heap);
-    write_faults(&mut out, heap, reading.faults.as_slice())?;
-    write_stages(&mut out, heap, steps)?;
+    write_faults(&mut out, reading.faults.as_slice())?;
+    write_stages(&mut out, steps)?;
     let count = reached(steps).count();
-    write_counts(
-        &mut out,
-        heap,
-        count,
-        reading.starts.len(),
-        reading.faults.len(),
-    )?;
+    write_counts(&mut out, count, reading.starts.len(), reading.faults.len())?;
     Ok(out)
 }
 
