@@ -68,8 +68,8 @@ small_append (x ∷ xs) ys p q = (p.0, small_append xs ys p.1 q)
 not_end : (c : Change) → bytes_eq (change_line c) (codes "end") ≡ false
 not_end (Stage n m) = refl
 not_end (Drop n) = refl
-not_end (Arc m e n) = refl
-not_end (Cut m e n) = refl
+not_end (Arc a) = refl
+not_end (Cut a) = refl
 not_end (Mark n m) = refl
 
 lines_push : (done : List Change) (c : Change) → lines_text (done ++ c ∷ []) ≡ lines_text done ++ (change_line c ++ (10 ∷ []))

@@ -61,14 +61,14 @@ reads (Stage n m) s p =
 reads (Drop n) s p =
     let a = numeral n s in
     ap (finish p) (two_words p.line p.offset (codes "drop") (decimal n) refl a.no_space) ∙ one_told _ _ _ n Drop a.reads
-reads (Arc m e n) s p =
-    let a = numeral m s.0 in let b = numeral e s.1 in let d = numeral n s.2 in
-    ap (finish p) (four_words p.line p.offset (codes "arc") (decimal m) (decimal e) (decimal n) refl a.no_space b.no_space d.no_space)
-    ∙ three_told _ _ _ _ _ _ _ m e n Arc a.reads b.reads d.reads
-reads (Cut m e n) s p =
-    let a = numeral m s.0 in let b = numeral e s.1 in let d = numeral n s.2 in
-    ap (finish p) (four_words p.line p.offset (codes "cut") (decimal m) (decimal e) (decimal n) refl a.no_space b.no_space d.no_space)
-    ∙ three_told _ _ _ _ _ _ _ m e n Cut a.reads b.reads d.reads
+reads (Arc x) s p =
+    let a = numeral x.from s.0 in let b = numeral x.label s.1 in let d = numeral x.to s.2 in
+    ap (finish p) (four_words p.line p.offset (codes "arc") (decimal x.from) (decimal x.label) (decimal x.to) refl a.no_space b.no_space d.no_space)
+    ∙ three_told _ _ _ _ _ _ _ x.from x.label x.to (λ m e n. Arc (record { from = m; label = e; to = n })) a.reads b.reads d.reads
+reads (Cut x) s p =
+    let a = numeral x.from s.0 in let b = numeral x.label s.1 in let d = numeral x.to s.2 in
+    ap (finish p) (four_words p.line p.offset (codes "cut") (decimal x.from) (decimal x.label) (decimal x.to) refl a.no_space b.no_space d.no_space)
+    ∙ three_told _ _ _ _ _ _ _ x.from x.label x.to (λ m e n. Cut (record { from = m; label = e; to = n })) a.reads b.reads d.reads
 reads (Mark n m) s p =
     let a = numeral n s.0 in let b = numeral m s.1 in
     ap (finish p) (three_words p.line p.offset (codes "mark") (decimal n) (decimal m) refl a.no_space b.no_space)
@@ -145,12 +145,12 @@ numbered_ok (dropped n) ch h =
     let b = number_ok n a.0 a.1 in
     subst (Line (form_text (dropped n))) a.2 ((λ i. codes "drop" ++ (32 ∷ b.text i)), b.small)
 numbered_ok (arc m e n) ch h =
-    let a = over_ok (three_numbers_of m e n) (λ (x : ℕ × ℕ × ℕ). Arc x.0 x.1 x.2) ch h in
+    let a = over_ok (three_numbers_of m e n) (λ (x : ℕ × ℕ × ℕ). Arc (record { from = x.0; label = x.1; to = x.2 })) ch h in
     let b = three_ok m e n a.0 a.1 in
     subst (Line (form_text (arc m e n))) a.2
     ((λ i. codes "arc" ++ (32 ∷ (b.0.text i ++ (32 ∷ (b.1.text i ++ (32 ∷ b.2.text i)))))), (b.0.small, b.1.small, b.2.small))
 numbered_ok (cut m e n) ch h =
-    let a = over_ok (three_numbers_of m e n) (λ (x : ℕ × ℕ × ℕ). Cut x.0 x.1 x.2) ch h in
+    let a = over_ok (three_numbers_of m e n) (λ (x : ℕ × ℕ × ℕ). Cut (record { from = x.0; label = x.1; to = x.2 })) ch h in
     let b = three_ok m e n a.0 a.1 in
     subst (Line (form_text (cut m e n))) a.2
     ((λ i. codes "cut" ++ (32 ∷ (b.0.text i ++ (32 ∷ (b.1.text i ++ (32 ∷ b.2.text i)))))), (b.0.small, b.1.small, b.2.small))

@@ -80,8 +80,8 @@ three_numbers_of u v w = and_then (number_of_word u) (λ x. over (λ n. (x, n.0,
 abbrev pub numbered : ToldLine → Result Change WordFault
 numbered (stage n m) = over (λ x. change.Stage x.0 x.1) (two_numbers_of n m)
 numbered (dropped n) = over change.Drop (number_of_word n)
-numbered (arc m e n) = over (λ x. change.Arc x.0 x.1 x.2) (three_numbers_of m e n)
-numbered (cut m e n) = over (λ x. change.Cut x.0 x.1 x.2) (three_numbers_of m e n)
+numbered (arc m e n) = over (λ x. change.Arc (record { from = x.0; label = x.1; to = x.2 })) (three_numbers_of m e n)
+numbered (cut m e n) = over (λ x. change.Cut (record { from = x.0; label = x.1; to = x.2 })) (three_numbers_of m e n)
 numbered (mark n m) = over (λ x. change.Mark x.0 x.1) (two_numbers_of n m)
 
 -- The change that a line of this form asks for.

@@ -8,7 +8,7 @@ ghost use Rattle.text.specs.Outcomes.{over};
 ghost use Rattle.text.specs.Counted.{told_two, told_three, none_of, one_of, two_of, three_of};
 ghost use Rattle.sheet.specs.Lines.{told_line, keyword_of, form_of, line_of, number_of_word, two_numbers_of, three_numbers_of, change_of};
 
-use rules::Change;
+use rules::{Arc, Change};
 use sheet_faults::{LineFault, WordFault};
 use text::{Part, Parts, Place, number};
 
@@ -206,11 +206,11 @@ impl<'a> Line<'a> {
             }
             Line::Arc { from, label, to } => {
                 let (from, label, to) = three_numbers(from, label, to)?;
-                Ok(Change::Arc { from, label, to })
+                Ok(Change::Arc(Arc { from, label, to }))
             }
             Line::Cut { from, label, to } => {
                 let (from, label, to) = three_numbers(from, label, to)?;
-                Ok(Change::Cut { from, label, to })
+                Ok(Change::Cut(Arc { from, label, to }))
             }
             Line::Mark { stage, mark } => {
                 let (stage, mark) = two_numbers(stage, mark)?;

@@ -1,7 +1,7 @@
 //! Worked cases at the edges of what a sheet may say.
 
 use crate::read_sheet;
-use rules::{BookFault, Change};
+use rules::{Arc, BookFault, Change};
 use sheet_faults::{Declined, SheetFault};
 use std::process::Abort;
 use std::test::Fail;
@@ -52,8 +52,8 @@ fn numbers(change: Change) -> [u16; 4] {
     match change {
         Change::Stage { stage, mark } => [0, stage, mark, 0],
         Change::Drop { stage } => [1, stage, 0, 0],
-        Change::Arc { from, label, to } => [2, from, label, to],
-        Change::Cut { from, label, to } => [3, from, label, to],
+        Change::Arc(Arc { from, label, to }) => [2, from, label, to],
+        Change::Cut(Arc { from, label, to }) => [3, from, label, to],
         Change::Mark { stage, mark } => [4, stage, mark, 0],
     }
 }
