@@ -25,7 +25,7 @@ pub arc_same : (a b c x y z : ℕ) → a ≡ x → b ≡ y → c ≡ z → (eqb 
 arc_same a b c x y z p q r = and_from (eqb a x) (eqb b y && eqb c z) (eq-eqb a x p) (and_from (eqb b y) (eqb c z) (eq-eqb b y q) (eq-eqb c z r))
 
 -- an element passes the test exactly if one or more do
-any_count : {X : Type 0} (p : X → Bool) (xs : List X) → list_any p xs ≡ ltb 0 (count_by p xs)
+pub any_count : {X : Type 0} (p : X → Bool) (xs : List X) → list_any p xs ≡ ltb 0 (count_by p xs)
 any_count p [] = refl
 any_count p (x ∷ xs) = go (p x) refl (any_count p xs)
   where
