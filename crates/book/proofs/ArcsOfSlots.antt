@@ -1,43 +1,60 @@
 -- The arcs of a stage and the number of arcs, by the meaning of the book and by its slots.
-use Rattle.std.proofs.Common.{◌≡◌, ℕ, suc, ◌+◌, ◌<◌, Bool, true, false, cond, ◌&&◌, ◌||◌, eqb, leb, ◌⊎◌, List, [], ◌∷◌, length, get_or, sym, refl, ap, ◌∙◌, inl, inr, arith}
-use Rattle.std.proofs.lemmas.Bool.{true≢false, false≢true, eqb-true, eq-eqb, leb-true, and_parts, and_from, or_cases, cases_Bool}
-use Rattle.book.specs.declared.slots.Slot.{Slot}
-use Rattle.book.specs.Slots.{free, here, arcs_in, joined, tally, once, proper, fits}
+use Rattle.std.proofs.Common.{◌≡◌, ℕ, zero, suc, ◌+◌, ◌<◌, Bool, true, false, cond, ◌&&◌, ◌||◌, eqb, leb, ◌⊎◌, List, [], ◌∷◌, Some, None, Option, is_some, count_by, length, get_or, sym, refl, ap, ◌∙◌, inl, inr, arith}
+use Rattle.std.specs.List.{list_any}
+use Rattle.std.proofs.lemmas.Bool.{true≢false, false≢true, eqb-true, eq-eqb, leb-true, and_parts, and_from, or_cases}
+use Rattle.std.proofs.lemmas.List.Folds.{list_any_at, Any-from_list_any, list_any-from_Any}
+use Rattle.std.proofs.lemmas.List.Sums.{sum_by-cons}
+use Rattle.rules.specs.declared.change.Arc.{Arc}
 use Rattle.rules.specs.Rules.{any_below, sum_below}
 use Rattle.rules.proofs.Booleans.{or_left, or_right, bool_ext, not_so}
 use Rattle.rules.proofs.Below.{any_some, some_any, sum_add, sum_same, sum_zero, sum_one}
-use Rattle.book.proofs.SlotWrites.{arcs_at, some_here, joined_at, some_touch, same_arc, arc_same, once_not_both, once_tail, fits_at, proper_parts, bit_one, bit_none}
+use Rattle.book.specs.Slots.{here, touches, arcs_in, joined, tally, Once, proper, Fit}
+use Rattle.book.proofs.SlotWrites.{counted_none, bit_one, bit_none, same_arc, arc_same}
+
+-- a slot at which a test passes that no free slot passes
+pub found : (p : Option Arc → Bool) → p None ≡ false → (ss : List (Option Arc)) → list_any p ss ≡ true →
+    (k : ℕ) × (a : Arc) × (k < length ss) × (get_or ss k None ≡ Some a) × (p (Some a) ≡ true)
+found p free [] h = absurd (false≢true h)
+found p free (None ∷ ss) h = let r = found p free ss (sym (ap (λ (v : Bool). v || list_any p ss) free) ∙ h) in (suc r.0, r.1, omega (arith, r.2), r.3, r.4)
+found p free (Some a ∷ ss) h = go (or_cases (p (Some a)) (list_any p ss) h) (found p free ss)
+  where
+    go : (p (Some a) ≡ true) ⊎ (list_any p ss ≡ true) →
+        (list_any p ss ≡ true → (k : ℕ) × (x : Arc) × (k < length ss) × (get_or ss k None ≡ Some x) × (p (Some x) ≡ true)) →
+        (k : ℕ) × (x : Arc) × (k < suc (length ss)) × (get_or (Some a ∷ ss) k None ≡ Some x) × (p (Some x) ≡ true)
+    go (inl t) r = (zero, a, omega arith, refl, t)
+    go (inr t) r = let y = r t in (suc y.0, y.1, omega (arith, y.2), y.3, y.4)
+
+any_weaker : (p q : Option Arc → Bool) (ss : List (Option Arc)) → ((s : Option Arc) → p s ≡ true → q s ≡ true) → list_any p ss ≡ true → list_any q ss ≡ true
+any_weaker p q ss f h = let a = Any-from_list_any p ss h in list_any-from_Any q ss (a.0, a.1, a.2, a.3, f a.1 a.4)
+
+-- of an arc that stands: its ends are live, and its label fits
+pub record Proper (live : ℕ → Bool) (E : ℕ) (a : Arc) : Type 0 where
+  pub from_live : live a.from ≡ true
+  pub to_live : live a.to ≡ true
+  pub label_low : leb a.label E ≡ true
+
+pub proper_parts : (live : ℕ → Bool) (E : ℕ) (a : Arc) → proper live E (Some a) ≡ true → Proper live E a
+proper_parts live E a h =
+    let p = and_parts (live a.from) _ h in
+    let q = and_parts (live a.to) (leb a.label E) p.1 in
+    record { from_live = p.0; to_live = q.0; label_low = q.1 }
 
 -- a stage has arcs by the meaning exactly if a slot holds one
-pub joined_is : (live : ℕ → Bool) (E : ℕ) (ss : List Slot) (n : ℕ) → fits live E ss ≡ true → ((k : ℕ) → live k ≡ true → k < 256) →
+pub joined_is : (live : ℕ → Bool) (E : ℕ) (ss : List (Option Arc)) (n : ℕ) → Fit live E ss → ((k : ℕ) → live k ≡ true → k < 256) →
     any_below 256 (λ m. live m && any_below (suc E) (λ e. arcs_in ss n e m || arcs_in ss m e n)) ≡ joined ss n
-joined_is live E ss n f low = bool_ext (any_below 256 meant) (joined ss n) there back
+joined_is live E ss n f low = bool_ext (any_below 256 (λ m. live m && any_below (suc E) (λ e. arcs_in ss n e m || arcs_in ss m e n))) (joined ss n) there back
   where
-    arcs : ℕ → ℕ → Bool
-    arcs m e = arcs_in ss n e m || arcs_in ss m e n
+    leaves : (m e : ℕ) (s : Option Arc) → here n e m s ≡ true → touches n s ≡ true
+    leaves m e None h = absurd (false≢true h)
+    leaves m e (Some a) h = or_left (eqb n a.from) (eqb n a.to) (and_parts (eqb n a.from) _ h).0
 
-    meant : ℕ → Bool
-    meant m = live m && any_below (suc E) (λ e. arcs_in ss n e m || arcs_in ss m e n)
-
-    leaves : (m e : ℕ) → arcs_in ss n e m ≡ true → joined ss n ≡ true
-    leaves m e h =
-        let a = arcs_at ss n e m h in
-        let s = get_or ss a.0 free in
-        let p = and_parts s.stands _ a.2 in
-        let q = and_parts (eqb n s.from) _ p.1 in
-        some_touch ss a.0 n a.1 (and_from s.stands _ p.0 (or_left (eqb n s.from) (eqb n s.to) q.0))
-
-    enters : (m e : ℕ) → arcs_in ss m e n ≡ true → joined ss n ≡ true
-    enters m e h =
-        let a = arcs_at ss m e n h in
-        let s = get_or ss a.0 free in
-        let p = and_parts s.stands _ a.2 in
-        let q = same_arc m e n s.from s.label s.to p.1 in
-        some_touch ss a.0 n a.1 (and_from s.stands _ p.0 (or_right (eqb n s.from) (eqb n s.to) (eq-eqb n s.to q.2)))
+    enters : (m e : ℕ) (s : Option Arc) → here m e n s ≡ true → touches n s ≡ true
+    enters m e None h = absurd (false≢true h)
+    enters m e (Some a) h = or_right (eqb n a.from) (eqb n a.to) (eq-eqb n a.to (same_arc m e n a.from a.label a.to h).2)
 
     either : (m e : ℕ) → (arcs_in ss n e m ≡ true) ⊎ (arcs_in ss m e n ≡ true) → joined ss n ≡ true
-    either m e (inl h) = leaves m e h
-    either m e (inr h) = enters m e h
+    either m e (inl h) = any_weaker (here n e m) (touches n) ss (leaves m e) h
+    either m e (inr h) = any_weaker (here m e n) (touches n) ss (enters m e) h
 
     there : any_below 256 (λ m. live m && any_below (suc E) (λ e. arcs_in ss n e m || arcs_in ss m e n)) ≡ true → joined ss n ≡ true
     there h =
@@ -46,32 +63,28 @@ joined_is live E ss n f low = bool_ext (any_below 256 meant) (joined ss n) there
         let d = any_some (suc E) (λ e. arcs_in ss n e a.0 || arcs_in ss a.0 e n) b.1 in
         either a.0 d.0 (or_cases (arcs_in ss n d.0 a.0) (arcs_in ss a.0 d.0 n) d.2)
 
-    found : (m e : ℕ) → live m ≡ true → leb e E ≡ true → (arcs_in ss n e m || arcs_in ss m e n) ≡ true →
+    meant : (m e : ℕ) → live m ≡ true → leb e E ≡ true → (arcs_in ss n e m || arcs_in ss m e n) ≡ true →
         any_below 256 (λ m. live m && any_below (suc E) (λ e. arcs_in ss n e m || arcs_in ss m e n)) ≡ true
-    found m e l le h = some_any 256 (λ m. live m && any_below (suc E) (λ e. arcs_in ss n e m || arcs_in ss m e n)) m (low m l)
+    meant m e l le h = some_any 256 (λ m. live m && any_below (suc E) (λ e. arcs_in ss n e m || arcs_in ss m e n)) m (low m l)
         (and_from (live m) _ l (some_any (suc E) (λ e. arcs_in ss n e m || arcs_in ss m e n) e (omega (arith, leb-true e E le)) h))
 
-    at : (k : ℕ) → k < length ss → (get_or ss k free).stands ≡ true → (eqb n (get_or ss k free).from ≡ true) ⊎ (eqb n (get_or ss k free).to ≡ true) →
+    at : (k : ℕ) (a : Arc) → k < length ss → get_or ss k None ≡ Some a → (eqb n a.from ≡ true) ⊎ (eqb n a.to ≡ true) →
         any_below 256 (λ m. live m && any_below (suc E) (λ e. arcs_in ss n e m || arcs_in ss m e n)) ≡ true
-    at k lt st (inl e) =
-        let s = get_or ss k free in
-        let p = proper_parts live E s (fits_at live E ss k f) st in
-        found s.to s.label p.to_live p.label_low
-        (or_left (arcs_in ss n s.label s.to) (arcs_in ss s.to s.label n)
-        (some_here ss k n s.label s.to lt (and_from s.stands _ st (arc_same n s.label s.to s.from s.label s.to (eqb-true n s.from e) refl refl))))
-    at k lt st (inr e) =
-        let s = get_or ss k free in
-        let p = proper_parts live E s (fits_at live E ss k f) st in
-        found s.from s.label p.from_live p.label_low
-        (or_right (arcs_in ss n s.label s.from) (arcs_in ss s.from s.label n)
-        (some_here ss k s.from s.label n lt (and_from s.stands _ st (arc_same s.from s.label n s.from s.label s.to refl refl (eqb-true n s.to e)))))
+    at k a lt h w =
+        let p = proper_parts live E a (sym (ap (proper live E) h) ∙ f k) in
+        go p w
+      where
+        go : Proper live E a → (eqb n a.from ≡ true) ⊎ (eqb n a.to ≡ true) →
+            any_below 256 (λ m. live m && any_below (suc E) (λ e. arcs_in ss n e m || arcs_in ss m e n)) ≡ true
+        go p (inl e) = meant a.to a.label p.to_live p.label_low (or_left (arcs_in ss n a.label a.to) (arcs_in ss a.to a.label n)
+            (list_any_at (here n a.label a.to) ss k None lt (ap (here n a.label a.to) h ∙ arc_same n a.label a.to a.from a.label a.to (eqb-true n a.from e) refl refl)))
+        go p (inr e) = meant a.from a.label p.from_live p.label_low (or_right (arcs_in ss n a.label a.from) (arcs_in ss a.from a.label n)
+            (list_any_at (here a.from a.label n) ss k None lt (ap (here a.from a.label n) h ∙ arc_same a.from a.label n a.from a.label a.to refl refl (eqb-true n a.to e))))
 
     back : joined ss n ≡ true → any_below 256 (λ m. live m && any_below (suc E) (λ e. arcs_in ss n e m || arcs_in ss m e n)) ≡ true
     back h =
-        let a = joined_at ss n h in
-        let s = get_or ss a.0 free in
-        let p = and_parts s.stands _ a.2 in
-        at a.0 a.1 p.0 (or_cases (eqb n s.from) (eqb n s.to) p.1)
+        let a = found (touches n) refl ss h in
+        at a.0 a.1 a.2 a.3 (or_cases (eqb n a.1.from) (eqb n a.1.to) a.4)
 
 guard_add : (v : Bool) (x y : ℕ) → cond {A = ℕ} v (x + y) 0 ≡ cond {A = ℕ} v x 0 + cond {A = ℕ} v y 0
 guard_add true x y = refl
@@ -116,41 +129,42 @@ guard_live : (v : Bool) (x y : ℕ) → v ≡ true → x ≡ y → cond {A = ℕ
 guard_live true x y h e = e
 guard_live false x y h e = absurd (false≢true h)
 
-counted_none : (live : ℕ → Bool) (E : ℕ) (f : ℕ → ℕ → ℕ → Bool) → ((m e n : ℕ) → f m e n ≡ false) → counted live E f ≡ 0
-counted_none live E f h =
+counted_free : (live : ℕ → Bool) (E : ℕ) (f : ℕ → ℕ → ℕ → Bool) → ((m e n : ℕ) → f m e n ≡ false) → counted live E f ≡ 0
+counted_free live E f h =
     sum_zero 256 _ (λ m. guard_zero (live m) _ (sum_zero 256 _ (λ n. guard_zero (live n) _ (sum_zero (suc E) _ (λ e. bit_none (f m e n) (h m e n))))))
 
 -- a slot that holds an arc counts for one
-counted_slot : (live : ℕ → Bool) (E : ℕ) (s : Slot) → ((k : ℕ) → live k ≡ true → k < 256) → proper live E s ≡ true →
-    counted live E (here s) ≡ cond s.stands 1 0
-counted_slot live E s low p = go (cases_Bool s.stands)
+pub counted_slot : (live : ℕ → Bool) (E : ℕ) (s : Option Arc) → ((k : ℕ) → live k ≡ true → k < 256) → proper live E s ≡ true →
+    counted live E (λ m e n. here m e n s) ≡ cond (is_some s) 1 0
+counted_slot live E None low p = counted_free live E (λ m e n. false) (λ m e n. refl)
+counted_slot live E (Some a) low p =
+    let q = proper_parts live E a p in
+    sum_one 256 (λ m. cond (live m) (leaving live E there m) 0) a.from (low a.from q.from_live)
+    (guard_live (live a.from) _ 1 q.from_live
+    (sum_one 256 (λ n. cond (live n) (labels E there a.from n) 0) a.to (low a.to q.to_live)
+    (guard_live (live a.to) _ 1 q.to_live
+    (sum_one (suc E) (λ e. cond (there a.from e a.to) 1 0) a.label (omega (arith, leb-true a.label E q.label_low))
+    (bit_one (there a.from a.label a.to) (arc_same a.from a.label a.to a.from a.label a.to refl refl refl))
+    (λ e d. bit_none (there a.from e a.to) (elsewhere a.from e a.to (λ x. d x.1)))))
+    (λ n d. guard_zero (live n) _ (sum_zero (suc E) _ (λ e. bit_none (there a.from e n) (elsewhere a.from e n (λ x. d x.2)))))))
+    (λ m d. guard_zero (live m) _ (sum_zero 256 _ (λ n. guard_zero (live n) _ (sum_zero (suc E) _ (λ e. bit_none (there m e n) (elsewhere m e n (λ x. d x.0)))))))
   where
-    elsewhere : (m e n : ℕ) → ((m ≡ s.from) × (e ≡ s.label) × (n ≡ s.to) → ⊥) → here s m e n ≡ false
-    elsewhere m e n d = not_so (here s m e n) (λ h. d (same_arc m e n s.from s.label s.to (and_parts s.stands _ h).1))
+    there : ℕ → ℕ → ℕ → Bool
+    there m e n = here m e n (Some a)
 
-    go : (s.stands ≡ true) ⊎ (s.stands ≡ false) → counted live E (here s) ≡ cond s.stands 1 0
-    go (inl h) = let q = proper_parts live E s p h in
-        sum_one 256 (λ m. cond (live m) (leaving live E (here s) m) 0) s.from (low s.from q.from_live)
-        (guard_live (live s.from) _ 1 q.from_live
-        (sum_one 256 (λ n. cond (live n) (labels E (here s) s.from n) 0) s.to (low s.to q.to_live)
-        (guard_live (live s.to) _ 1 q.to_live
-        (sum_one (suc E) (λ e. cond (here s s.from e s.to) 1 0) s.label (omega (arith, leb-true s.label E q.label_low))
-        (bit_one (here s s.from s.label s.to) (and_from s.stands _ h (arc_same s.from s.label s.to s.from s.label s.to refl refl refl)))
-        (λ e d. bit_none (here s s.from e s.to) (elsewhere s.from e s.to (λ x. d x.1)))))
-        (λ n d. guard_zero (live n) _ (sum_zero (suc E) _ (λ e. bit_none (here s s.from e n) (elsewhere s.from e n (λ x. d x.2)))))))
-        (λ m d. guard_zero (live m) _ (sum_zero 256 _ (λ n. guard_zero (live n) _ (sum_zero (suc E) _ (λ e. bit_none (here s m e n) (elsewhere m e n (λ x. d x.0)))))))
-        ∙ sym (bit_one s.stands h)
-    go (inr h) =
-        counted_none live E (here s) (λ m e n. ap (λ (v : Bool). v && (eqb m s.from && (eqb e s.label && eqb n s.to))) h)
-        ∙ sym (bit_none s.stands h)
+    elsewhere : (m e n : ℕ) → ((m ≡ a.from) × (e ≡ a.label) × (n ≡ a.to) → ⊥) → here m e n (Some a) ≡ false
+    elsewhere m e n d = not_so (here m e n (Some a)) (λ h. d (same_arc m e n a.from a.label a.to h))
 
-pub tally_is : (live : ℕ → Bool) (E : ℕ) (ss : List Slot) → ((k : ℕ) → live k ≡ true → k < 256) → fits live E ss ≡ true → once ss ≡ true →
+pub tally_is : (live : ℕ → Bool) (E : ℕ) (ss : List (Option Arc)) → ((k : ℕ) → live k ≡ true → k < 256) → Fit live E ss → Once ss →
     counted live E (arcs_in ss) ≡ tally ss
-unfolding arcs_in fits tally
-tally_is live E [] low f o = counted_none live E (λ m e n. false) (λ m e n. refl)
+tally_is live E [] low f o = counted_free live E (λ m e n. false) (λ m e n. refl)
 tally_is live E (s ∷ ss) low f o =
-    let p = and_parts (proper live E s) (fits live E ss) f in
-    let a = counted_add live E (here s) (arcs_in ss) (λ m e n. here s m e n || arcs_in ss m e n) (λ m e n. or_bits (here s m e n) (arcs_in ss m e n) (once_not_both s ss m e n o)) in
-    let b = counted_slot live E s low p.0 in
-    let r = tally_is live E ss low p.1 (once_tail s ss o) in
-    a ∙ ap (λ (x : ℕ). x + counted live E (arcs_in ss)) b ∙ ap (λ (x : ℕ). cond {A = ℕ} s.stands 1 0 + x) r
+    let a = counted_add live E (λ m e n. here m e n s) (arcs_in ss) (λ m e n. here m e n s || arcs_in ss m e n)
+    (λ m e n. or_bits (here m e n s) (arcs_in ss m e n) (λ h. counted_none (here m e n) ss (omega (arith, o m e n, count m e n, bit_one _ h)))) in
+    let b = counted_slot live E s low (f zero) in
+    let r = tally_is live E ss low (λ k. f (suc k)) (λ m e n. omega (arith, o m e n, count m e n)) in
+    a ∙ ap (λ (x : ℕ). x + counted live E (arcs_in ss)) b ∙ ap (λ (x : ℕ). cond {A = ℕ} (is_some s) 1 0 + x) r
+    ∙ sym (sum_by-cons (λ x. cond (is_some x) 1 0) s ss)
+  where
+    count : (m e n : ℕ) → count_by (here m e n) (s ∷ ss) ≡ cond {A = ℕ} (here m e n s) 1 0 + count_by (here m e n) ss
+    count m e n = sum_by-cons (λ x. cond (here m e n x) 1 0) s ss

@@ -1,16 +1,23 @@
 -- What is true of every book record, over its fields.
-use Rattle.std.specs.Prelude.{◌≡◌, ℕ, ◌≤◌, Bool, true, false, List, length, slice_index, slice_index_or}
-use Rattle.book.specs.declared.slots.Slot.{Slot}
-use Rattle.book.specs.Slots.{tally, once, fits}
+use Rattle.std.specs.Prelude.{◌≡◌, ℕ, ◌≤◌, Bool, true, false, List, Option, length, slice_index_or}
+use Rattle.rules.specs.declared.change.Arc.{Arc}
+use Rattle.book.specs.declared.record.Stage.{Stage}
+use Rattle.book.specs.Slots.{tally, Once, Fit}
 
--- Whether a stage is live, by the record's list.
-abbrev pub live_in : List Bool → ℕ → Bool
-live_in live n = slice_index_or live n false
+-- A stage beyond the record.
+abbrev pub no_stage : Stage
+no_stage = record { live = false; mark = 0 }
+
+-- Whether a stage is live, and its mark, by the record's list.
+abbrev pub live_in : List Stage → ℕ → Bool
+live_in stages n = (slice_index_or stages n no_stage).live
+
+abbrev pub mark_in : List Stage → ℕ → ℕ
+mark_in stages n = (slice_index_or stages n no_stage).mark
 
 -- 1 to 15 events; stage 0 is live; marks up to 7; no arc in two slots, arcs that fit, and as many as the count says.
-abbrev pub Consistent : ℕ → List Bool → List ℕ → List Slot → ℕ → Type 0
-Consistent events live marks arcs count =
+abbrev pub Consistent : ℕ → List Stage → List (Option Arc) → ℕ → Type 0
+Consistent events stages arcs count =
     ((1 ≤ events) × (events ≤ 15))
-    × ((length live ≡ 256) × (live_in live 0 ≡ true))
-    × ((length marks ≡ 256) × ((n : ℕ) → slice_index marks n ≤ 7))
-    × ((length arcs ≡ 1024) × (once arcs ≡ true) × (fits (live_in live) events arcs ≡ true) × (count ≡ tally arcs))
+    × ((length stages ≡ 256) × (live_in stages 0 ≡ true) × ((n : ℕ) → mark_in stages n ≤ 7))
+    × ((length arcs ≡ 1024) × Once arcs × Fit (live_in stages) events arcs × (count ≡ tally arcs))

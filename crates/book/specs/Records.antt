@@ -1,17 +1,17 @@
 -- What a book record means, and what its calls leave.
-use Rattle.std.specs.Prelude.{◌≡◌, ℕ, ◌<◌, ◌≤◌, true, cond, not, ◌||◌, Some, None, Ok, Err, Option, Result, nat_lt, slice_index}
+use Rattle.std.specs.Prelude.{◌≡◌, ℕ, ◌<◌, ◌≤◌, true, cond, not, ◌||◌, Some, None, Ok, Err, Option, Result, nat_lt}
 use Rattle.rules.specs.declared.change.Change.{Change}
 use Rattle.rules.specs.declared.change.BookFault.{BookFault}
 use Rattle.rules.specs.declared.change.BookFault.TheVariants.{OutOfRange, NotLive}
 use Rattle.rules.specs.Rules.{Rules, fresh}
 use Rattle.rules.specs.Changes.{changed, first_fault}
 use Rattle.book.specs.Slots.{arcs_in}
-use Rattle.book.specs.Consistency.{live_in}
+use Rattle.book.specs.Consistency.{live_in, mark_in}
 use Rattle.book.specs.declared.record.Book.{Book}
 
 -- The rule book that a record means.
 abbrev pub rules_of : Book → Rules
-rules_of b = record { events = b.events; live = live_in b.live; mark = λ n. slice_index b.marks n; arc = arcs_in b.arcs }
+rules_of b = record { events = b.events; live = live_in b.stages; mark = mark_in b.stages; arc = arcs_in b.arcs }
 
 -- Every live stage is below W.
 abbrev pub LiveBelow : ℕ → Rules → Type 0

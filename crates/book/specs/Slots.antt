@@ -1,44 +1,44 @@
--- What arc slots mean.
-use Rattle.std.specs.Prelude.{ℕ, ◌+◌, Bool, true, false, cond, not, ◌&&◌, ◌||◌, List, [], ◌∷◌, ◌==◌, nat_le}
-use Rattle.book.specs.declared.slots.Slot.{Slot}
+-- What arc slots mean: a slot holds an arc, which stands in the book, or none.
+use Rattle.std.specs.Prelude.{◌≡◌, ℕ, ◌≤◌, Bool, true, false, not, ◌&&◌, ◌||◌, List, Some, None, Option, ◌==◌, nat_le, is_some, count_by, slice_index_or}
+use Rattle.std.specs.List.{list_any}
+use Rattle.rules.specs.declared.change.Arc.{Arc}
 
--- A slot in which no arc stands.
-abbrev pub free : Slot
-free = record { stands = false; from = 0; label = 0; to = 0 }
-
--- Whether this arc stands in the slot.
-abbrev pub here : Slot → ℕ → ℕ → ℕ → Bool
-here s m e n = s.stands && (m == s.from && (e == s.label && n == s.to))
+-- Whether the slot holds the arc (from, label, to).
+abbrev pub here : ℕ → ℕ → ℕ → Option Arc → Bool
+here m e n None = false
+here m e n (Some a) = m == a.from && (e == a.label && n == a.to)
 
 -- Whether this arc stands in one of the slots.
-unfoldable pub arcs_in : List Slot → ℕ → ℕ → ℕ → Bool
-arcs_in [] m e n = false
-arcs_in (s ∷ ss) m e n = here s m e n || arcs_in ss m e n
+abbrev pub arcs_in : List (Option Arc) → ℕ → ℕ → ℕ → Bool
+arcs_in ss m e n = list_any (here m e n) ss
 
--- Whether an arc stands in the slot that leaves or enters the stage.
-abbrev pub touches : Slot → ℕ → Bool
-touches s n = s.stands && (n == s.from || n == s.to)
+-- Whether the slot holds an arc that leaves or enters the stage.
+abbrev pub touches : ℕ → Option Arc → Bool
+touches n None = false
+touches n (Some a) = n == a.from || n == a.to
 
 -- Whether such an arc stands in one of the slots.
-unfoldable pub joined : List Slot → ℕ → Bool
-joined [] n = false
-joined (s ∷ ss) n = touches s n || joined ss n
+abbrev pub joined : List (Option Arc) → ℕ → Bool
+joined ss n = list_any (touches n) ss
 
 -- In how many slots an arc stands.
-unfoldable pub tally : List Slot → ℕ
-tally [] = 0
-tally (s ∷ ss) = cond s.stands 1 0 + tally ss
+abbrev pub tally : List (Option Arc) → ℕ
+tally ss = count_by is_some ss
 
 -- No arc stands in two slots.
-unfoldable pub once : List Slot → Bool
-once [] = true
-once (s ∷ ss) = not (s.stands && arcs_in ss s.from s.label s.to) && once ss
+abbrev pub Once : List (Option Arc) → Type 0
+Once ss = (m e n : ℕ) → count_by (here m e n) ss ≤ 1
 
 -- An arc that stands in the slot joins live stages, and its label is not above E.
-abbrev pub proper : (ℕ → Bool) → ℕ → Slot → Bool
-proper live E s = not s.stands || (live s.from && (live s.to && nat_le s.label E))
+abbrev pub proper : (ℕ → Bool) → ℕ → Option Arc → Bool
+proper live E None = true
+proper live E (Some a) = live a.from && (live a.to && nat_le a.label E)
 
 -- So do the arcs in all the slots.
-unfoldable pub fits : (ℕ → Bool) → ℕ → List Slot → Bool
-fits live E [] = true
-fits live E (s ∷ ss) = proper live E s && fits live E ss
+abbrev pub Fit : (ℕ → Bool) → ℕ → List (Option Arc) → Type 0
+Fit live E ss = (k : ℕ) → proper live E (slice_index_or ss k None) ≡ true
+
+-- Whether two slots hold the same: this arc, or none.
+abbrev pub same_slot : Option Arc → Option Arc → Bool
+same_slot None s = not (is_some s)
+same_slot (Some a) s = here a.from a.label a.to s

@@ -2,20 +2,11 @@
 
 ghost use Rattle.std.specs.Prelude.{◌≡◌, ◌≤◌, min};
 ghost use Rattle.rules.specs.Rules.{fresh as fresh_rules};
-ghost use Rattle.rules.specs.declared.change.Change.TheVariants.{Stage, Drop as Dropped, Arc, Cut, Mark};
+ghost use Rattle.rules.specs.declared.change.Change.TheVariants.{Stage as Staged, Drop as Dropped, Arc as Added, Cut, Mark};
 ghost use Rattle.book.specs.Records.{rules_of, FreshPost, ChangePost, ends_answer};
 
-use crate::record::Book;
-use crate::slots::{Slot, free_place, place_of};
-use rules::{BookFault, Change};
-
-/// A slot in which no arc stands.
-const FREE: Slot = Slot {
-    stands: false,
-    from: 0,
-    label: 0,
-    to: 0,
-};
+use crate::record::{Book, Stage};
+use rules::{Arc, BookFault, Change};
 
 impl Book {
     /// The book with so many events in which stage 0 is live with mark 0 and no arc stands; absent where
@@ -30,16 +21,19 @@ impl Book {
     }
 
     fn begun(events: u8) -> Book
-        requires { (1 ≤ events) × (events ≤ 15) }
+        requires some { 1 ≤ events }
+        requires few { events ≤ 15 }
         ensures { rules_of result ≡ fresh_rules events }
     {
-        let mut live = [false; 256];
-        live[0] = true;
+        let mut stages = [Stage {
+            live: false,
+            mark: 0,
+        }; 256];
+        stages[0].live = true;
         Book {
             events,
-            live,
-            marks: [0; 256],
-            arcs: [FREE; 1024],
+            stages,
+            arcs: [None; 1024],
             count: 0,
         }
     }
@@ -49,33 +43,39 @@ impl Book {
     pub fn change(&mut self, width: u16, change: Change) -> Result<(), BookFault>
         ensures { ChangePost (min width 256) self.old change result self.new }
     {
+        let bound = width.min(256);
         match change {
-            Change::Stage { stage, mark } => self.add_stage(width, stage, mark),
-            Change::Drop { stage } => self.drop_stage(width, stage),
-            Change::Arc { from, label, to } => self.add_arc(width, from, label, to),
-            Change::Cut { from, label, to } => self.cut_arc(width, from, label, to),
-            Change::Mark { stage, mark } => self.set_mark(width, stage, mark),
+            Change::Stage { stage, mark } => self.add_stage(bound, stage, mark),
+            Change::Drop { stage } => self.drop_stage(bound, stage),
+            Change::Arc(arc) => self.add_arc(bound, arc),
+            Change::Cut(arc) => self.cut_arc(bound, arc),
+            Change::Mark { stage, mark } => self.set_mark(bound, stage, mark),
         }
     }
 
-    fn add_stage(&mut self, width: u16, stage: u16, mark: u16) -> Result<(), BookFault>
-        ensures { ChangePost (min width 256) self.old (Stage stage mark) result self.new }
+    fn add_stage(&mut self, bound: u16, stage: u16, mark: u16) -> Result<(), BookFault>
+        requires { bound ≤ 256 }
+        ensures { ChangePost bound self.old (Staged stage mark) result self.new }
     {
-        if stage >= width.min(256) || mark > 7 {
+        if stage >= bound || mark > 7 {
             return Err(BookFault::OutOfRange);
         }
         if self.is_live(stage) {
             return Err(BookFault::LiveAlready);
         }
-        self.live[stage as usize] = true;
-        self.marks[stage as usize] = mark as u8;
+        self.stages[stage as usize] = Stage {
+            live: true,
+            mark: mark as u8,
+        };
         Ok(())
     }
 
-    fn drop_stage(&mut self, width: u16, stage: u16) -> Result<(), BookFault>
-        ensures { ChangePost (min width 256) self.old (Dropped stage) result self.new }
+    #[tactic(auto, using(crate::proofs::BookWrites::joined_meant))]
+    fn drop_stage(&mut self, bound: u16, stage: u16) -> Result<(), BookFault>
+        requires { bound ≤ 256 }
+        ensures { ChangePost bound self.old (Dropped stage) result self.new }
     {
-        if stage >= width.min(256) {
+        if stage >= bound {
             return Err(BookFault::OutOfRange);
         }
         if !self.is_live(stage) {
@@ -87,63 +87,57 @@ impl Book {
         if self.has_arcs(stage) {
             return Err(BookFault::HasArcs);
         }
-        self.live[stage as usize] = false;
+        self.stages[stage as usize].live = false;
         Ok(())
     }
 
-    fn set_mark(&mut self, width: u16, stage: u16, mark: u16) -> Result<(), BookFault>
-        ensures { ChangePost (min width 256) self.old (Mark stage mark) result self.new }
+    fn set_mark(&mut self, bound: u16, stage: u16, mark: u16) -> Result<(), BookFault>
+        requires { bound ≤ 256 }
+        ensures { ChangePost bound self.old (Mark stage mark) result self.new }
     {
-        if stage >= width.min(256) || mark > 7 {
+        if stage >= bound || mark > 7 {
             return Err(BookFault::OutOfRange);
         }
         if !self.is_live(stage) {
             return Err(BookFault::NotLive);
         }
-        self.marks[stage as usize] = mark as u8;
+        self.stages[stage as usize].mark = mark as u8;
         Ok(())
     }
 
-    fn add_arc(&mut self, width: u16, from: u16, label: u16, to: u16) -> Result<(), BookFault>
-        ensures { ChangePost (min width 256) self.old (Arc from label to) result self.new }
+    fn add_arc(&mut self, bound: u16, arc: Arc) -> Result<(), BookFault>
+        requires { bound ≤ 256 }
+        ensures { ChangePost bound self.old (Added arc) result self.new }
     {
-        self.check_ends(width, from, label, to)?;
-        if let Some(_) = place_of(&self.arcs, from, label, to) {
+        self.check_ends(bound, arc)?;
+        if self.has_arc(arc) {
             return Err(BookFault::ArcStands);
         }
-        let Some(i) = free_place(&self.arcs) else {
-            return Err(BookFault::BookFull);
-        };
-        self.arcs[i] = Slot {
-            stands: true,
-            from,
-            label,
-            to,
-        };
+        let place = self.place_of(None).ok_or(BookFault::BookFull)?;
+        self.arcs[place] = Some(arc);
         self.count += 1;
         Ok(())
     }
 
-    fn cut_arc(&mut self, width: u16, from: u16, label: u16, to: u16) -> Result<(), BookFault>
-        ensures { ChangePost (min width 256) self.old (Cut from label to) result self.new }
+    fn cut_arc(&mut self, bound: u16, arc: Arc) -> Result<(), BookFault>
+        requires { bound ≤ 256 }
+        ensures { ChangePost bound self.old (Cut arc) result self.new }
     {
-        self.check_ends(width, from, label, to)?;
-        let Some(i) = place_of(&self.arcs, from, label, to) else {
-            return Err(BookFault::ArcAbsent);
-        };
-        self.arcs[i] = FREE;
+        self.check_ends(bound, arc)?;
+        let place = self.place_of(Some(arc)).ok_or(BookFault::ArcAbsent)?;
+        self.arcs[place] = None;
         self.count -= 1;
         Ok(())
     }
 
     /// What stands against the ends and the label of an arc that is added or cut.
-    fn check_ends(&self, width: u16, from: u16, label: u16, to: u16) -> Result<(), BookFault>
-        ensures { result ≡ ends_answer (min width 256) (rules_of self.now) from label to }
+    fn check_ends(&self, bound: u16, arc: Arc) -> Result<(), BookFault>
+        ensures { result ≡ ends_answer bound (rules_of self.now) arc.from arc.label arc.to }
     {
-        if from >= width.min(256) || label > self.events as u16 || to >= width.min(256) {
+        if arc.from >= bound || arc.label > self.events as u16 || arc.to >= bound {
             return Err(BookFault::OutOfRange);
         }
-        if !self.is_live(from) || !self.is_live(to) {
+        if !self.is_live(arc.from) || !self.is_live(arc.to) {
             return Err(BookFault::NotLive);
         }
         Ok(())

@@ -4,9 +4,7 @@
 mod changes;
 mod questions;
 mod record;
-mod slots;
 #[cfg(test)]
 mod tests;
 
 pub use record::Book;
-pub use slots::Slot;

@@ -1,12 +1,12 @@
 //! What a book can be asked.
 
-ghost use Rattle.std.specs.Prelude.{◌≡◌, ℕ, true, length};
-ghost use Rattle.rules.specs.Rules.{WellFormed, has_any_arc, standing};
+ghost use Rattle.std.specs.Prelude.{◌≡◌, ℕ, length, position};
+ghost use Rattle.rules.specs.Rules.{WellFormed, standing};
 ghost use Rattle.book.specs.Records.{LiveBelow, rules_of};
-ghost use Rattle.book.specs.Slots.{arcs_in, joined, once};
+ghost use Rattle.book.specs.Slots.{arcs_in, joined, Once, same_slot};
 
 use crate::record::Book;
-use crate::slots::{Slot, holds, joins};
+use rules::Arc;
 
 impl Book {
     /// How many events there are. Every book is well formed: its live stages are below 256, and whatever
@@ -24,33 +24,31 @@ impl Book {
     pub fn is_live(&self, stage: u16) -> bool
         ensures { result ≡ (rules_of self.now).live stage }
     {
-        match self.live.get(stage as usize) {
-            Some(live) => *live,
-            None => false,
-        }
+        self.stages
+            .get(stage as usize)
+            .is_some_and(|stage| stage.live)
     }
 
     /// The mark of a live stage. That of a stage which is not live means nothing.
     pub fn mark_of(&self, stage: u16) -> u8
         ensures { result ≡ (rules_of self.now).mark stage }
     {
-        match self.marks.get(stage as usize) {
-            Some(mark) => *mark,
-            None => 0,
-        }
+        self.stages
+            .get(stage as usize)
+            .map_or(0, |stage| stage.mark)
     }
 
     /// Whether the arc stands.
-    pub fn has_arc(&self, from: u16, label: u16, to: u16) -> bool
-        ensures { result ≡ (rules_of self.now).arc from label to }
+    pub fn has_arc(&self, arc: Arc) -> bool
+        ensures { result ≡ (rules_of self.now).arc arc.from arc.label arc.to }
     {
-        holds(&self.arcs, from, label, to)
+        self.arcs.contains(&Some(arc))
     }
 
     /// The slots, in which all the arcs stand and each but once.
-    pub fn slots(&self) -> &[Slot]
+    pub fn slots(&self) -> &[Option<Arc>]
         ensures arcs { arcs_in result.now ≡ (rules_of self.now).arc }
-        ensures once { once result.now ≡ true }
+        ensures once { Once result.now }
         ensures all { length result.now ≡ 1024 }
     {
         &self.arcs
@@ -73,9 +71,15 @@ impl Book {
 
     /// Whether an arc leaves or enters the stage.
     pub(crate) fn has_arcs(&self, stage: u16) -> bool
-        ensures meant { result ≡ has_any_arc (rules_of self.now) stage }
-        ensures stored { result ≡ joined self.now.arcs stage }
+        ensures { result ≡ joined self.now.arcs stage }
     {
-        joins(&self.arcs, stage)
+        self.arcs.iter().any(|slot| slot.is_some_and(|arc| arc.from == stage || arc.to == stage))
+    }
+
+    /// The first slot that holds this: an arc, or none.
+    pub(crate) fn place_of(&self, content: Option<Arc>) -> Option<usize>
+        ensures { result ≡ position (same_slot content) self.now.arcs }
+    {
+        self.arcs.iter().position(|slot| *slot == content)
     }
 }

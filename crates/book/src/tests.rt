@@ -1,7 +1,7 @@
 //! Changes of a book at their edges, and which fault comes first.
 
 use crate::Book;
-use rules::Change;
+use rules::{Arc, Change};
 use std::process::Abort;
 use std::test::Fail;
 
@@ -18,11 +18,11 @@ fn drop(stage: u16) -> Change {
 }
 
 fn arc(from: u16, label: u16, to: u16) -> Change {
-    Change::Arc { from, label, to }
+    Change::Arc(Arc { from, label, to })
 }
 
 fn cut(from: u16, label: u16, to: u16) -> Change {
-    Change::Cut { from, label, to }
+    Change::Cut(Arc { from, label, to })
 }
 
 /// The book makes the change.
@@ -128,7 +128,20 @@ fn declined_alters_nothing(rt: HostRuntime) -> Result<(), Fail> {
     declined(&rt, &mut book, 64, arc(0, 2, 1), 26)?;
     declined(&rt, &mut book, 64, cut(1, 2, 0), 27)?;
     assert!(rt; book.is_live(1) && book.mark_of(1) == 3);
-    assert!(rt; book.has_arc(0, 2, 1) && !book.has_arc(1, 2, 0));
+    assert!(rt;
+        book.has_arc(Arc {
+            from: 0,
+            label: 2,
+            to: 1
+        })
+    );
+    assert!(rt;
+        !book.has_arc(Arc {
+            from: 1,
+            label: 2,
+            to: 0
+        })
+    );
     assert!(rt; book.arc_count() == 1);
     Ok(())
 }

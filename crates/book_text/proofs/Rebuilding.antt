@@ -1,6 +1,7 @@
 -- A fresh book takes the canonical changes, and is then alike.
-use Rattle.std.proofs.Common.{◌≡◌, ℕ, zero, suc, ◌<◌, ◌≤◌, Bool, true, false, cond, not, ◌&&◌, ◌||◌, eqb, ltb, ◌⊎◌, List, [], ◌∷◌, ◌++◌, map, sym, refl, ap, ◌∙◌, subst, inl, inr, arith}
-use Rattle.std.proofs.lemmas.Bool.{false≢true, both_ways, eqb-true, eqb-false, eq-eqb, ne_eqb, lt-ltb, le-ltb, or_from, cases_eq, cases_lt, cases_Bool}
+use Rattle.std.proofs.Common.{◌≡◌, ℕ, zero, suc, ◌<◌, ◌≤◌, Bool, true, false, cond, not, ◌&&◌, eqb, ◌⊎◌, List, [], ◌∷◌, ◌++◌, map, sym, refl, ap, ◌∙◌, subst, inl, inr, arith}
+use Rattle.std.proofs.lemmas.Bool.{false≢true, both_ways, eqb-true, eqb-false, eq-eqb, ne_eqb, lt-ltb, cases_eq, cases_lt, cases_Bool}
+use Rattle.rules.specs.declared.change.Arc.{Arc as AnArc}
 use Rattle.rules.specs.declared.change.Change.{Change}
 use Rattle.rules.specs.declared.change.Change.TheVariants.{Stage, Arc, Mark}
 use Rattle.rules.specs.Rules.{Rules, Alike, WellFormed, fresh, sum_below, arcs_from, standing}
@@ -9,9 +10,9 @@ use Rattle.rules.specs.Counts.{Among, NoRepeat}
 use Rattle.rules.proofs.Booleans.{not_so}
 use Rattle.book.proofs.SlotWrites.{same_arc, arc_same, bit_one, bit_none}
 use Rattle.rules.proofs.Below.{sum_le, sum_lt}
-use Rattle.rules.proofs.Faults.{Fine, arc_first, stage_free, mark_free}
+use Rattle.rules.proofs.Faults.{Fine, ends_fine, arc_first, stage_free, mark_free}
 use Rattle.rules.specs.Listing.{each_below}
-use Rattle.book_text.specs.Canonical.{stage_change, stage_changes, arc_change, Ascending, CanonicalChanges}
+use Rattle.book_text.specs.Canonical.{stage_change, stage_changes, Ascending, CanonicalChanges}
 use Rattle.book_text.proofs.Unique.{before_itself}
 
 pub leads_append : (W : ℕ) (xs ys : List Change) (a b c : Rules) → Leads W xs a b → Leads W ys b c → Leads W (xs ++ ys) a c
@@ -123,22 +124,22 @@ module _ (W : ℕ) (b : Rules) (wide : W ≤ 256) (g : WellFormed W b) where
   }
 
   -- all arcs stand but those that are still to be added
-  record Arced (todo : List (ℕ × ℕ × ℕ)) (r : Rules) : Type 0 where
+  record Arced (todo : List AnArc) (r : Rules) : Type 0 where
     pub events : r.events ≡ b.events
     pub live : (n : ℕ) → r.live n ≡ b.live n
     pub mark : (n : ℕ) → b.live n ≡ true → r.mark n ≡ b.mark n
-    pub made : (x y z : ℕ) → b.arc x y z ≡ true → (Among (x, y, z) todo → ⊥) → r.arc x y z ≡ true
-    pub gone : (x y z : ℕ) → r.arc x y z ≡ true → (b.arc x y z ≡ true) × (Among (x, y, z) todo → ⊥)
+    pub made : (x y z : ℕ) → b.arc x y z ≡ true → (Among (record { from = x; label = y; to = z }) todo → ⊥) → r.arc x y z ≡ true
+    pub gone : (x y z : ℕ) → r.arc x y z ≡ true → (b.arc x y z ≡ true) × (Among (record { from = x; label = y; to = z }) todo → ⊥)
 
   low : (n : ℕ) → b.live n ≡ true → n < 256
   low n h = let q = g.few_stages n h in omega arith
 
-  staged_arced : (r : Rules) (arcs : List (ℕ × ℕ × ℕ)) → ((x : ℕ × ℕ × ℕ) → b.arc x.0 x.1 x.2 ≡ true → Among x arcs) → Staged b 256 r → Arced arcs r
+  staged_arced : (r : Rules) (arcs : List AnArc) → ((x : AnArc) → b.arc x.from x.label x.to ≡ true → Among x arcs) → Staged b 256 r → Arced arcs r
   staged_arced r arcs all s = record {
     events = s.events;
     live = λ n. live n (cases_lt n 256);
     mark = λ n h. s.mark n (low n h) h;
-    made = λ x y z h d. absurd (d (all (x, y, z) h));
+    made = λ x y z h d. absurd (d (all (record { from = x; label = y; to = z }) h));
     gone = λ x y z h. absurd (both_ways (r.arc x y z) (s.arc x y z) h);
   }
     where
@@ -159,7 +160,7 @@ module _ (W : ℕ) (b : Rules) (wide : W ≤ 256) (g : WellFormed W b) where
   guard_lt v true x y e q h = let p = ap (λ (t : Bool). cond {A = ℕ} t x 0) e in omega arith
   guard_lt v false x y e q h = absurd (false≢true q)
 
-  fewer : (todo : List (ℕ × ℕ × ℕ)) (m e n : ℕ) (r : Rules) → Arced todo r → b.arc m e n ≡ true → r.arc m e n ≡ false → standing r < standing b
+  fewer : (todo : List AnArc) (m e n : ℕ) (r : Rules) → Arced todo r → b.arc m e n ≡ true → r.arc m e n ≡ false → standing r < standing b
   fewer todo m e n r s h d =
       let ends = g.arc_fits m e n h in
       sum_lt 256 (λ x. cond (r.live x) (arcs_from r x) 0) (λ x. cond (b.live x) (arcs_from b x) 0) m (low m ends.0)
@@ -192,66 +193,66 @@ module _ (W : ℕ) (b : Rules) (wide : W ≤ 256) (g : WellFormed W b) where
           (λ z. guard_le (r.live z) (b.live z) _ _ (s.live z) (labels_le x z))
 
   -- one arc is added
-  arc_made : (m e n : ℕ) (todo : List (ℕ × ℕ × ℕ)) (r : Rules) → b.arc m e n ≡ true → (Among (m, e, n) todo → ⊥) → Arced ((m, e, n) ∷ todo) r →
-      Leads W (Arc m e n ∷ []) r (changed r (Arc m e n)) × Arced todo (changed r (Arc m e n))
-  arc_made m e n todo r h single s = (
-    (arc_first W r m e n fine false false absent (ap not (lt-ltb (standing r) 1024 room)), refl),
+  arc_made : (w : AnArc) (todo : List AnArc) (r : Rules) → b.arc w.from w.label w.to ≡ true → (Among w todo → ⊥) → Arced (w ∷ todo) r →
+      Leads W (Arc w ∷ []) r (changed r (Arc w)) × Arced todo (changed r (Arc w))
+  arc_made w todo r h single s = (
+    (arc_first W r w fine false false absent (ap not (lt-ltb (standing r) 1024 room)), refl),
     record {
       events = s.events;
       live = s.live;
       mark = s.mark;
-      made = λ x y z a d. adds x y z a d (cases_Bool (eqb x m && (eqb y e && eqb z n)));
-      gone = λ x y z a. only x y z a (cases_Bool (eqb x m && (eqb y e && eqb z n)));
+      made = λ x y z a d. adds x y z a d (cases_Bool (eqb x w.from && (eqb y w.label && eqb z w.to)));
+      gone = λ x y z a. only x y z a (cases_Bool (eqb x w.from && (eqb y w.label && eqb z w.to)));
     },
   )
     where
-      ends : (b.live m ≡ true) × (b.live n ≡ true) × (e ≤ b.events)
-      ends = g.arc_fits m e n h
+      ends : (b.live w.from ≡ true) × (b.live w.to ≡ true) × (w.label ≤ b.events)
+      ends = g.arc_fits w.from w.label w.to h
 
-      absent : r.arc m e n ≡ false
-      absent = not_so (r.arc m e n) (λ a. (s.gone m e n a).1 (inl refl))
+      absent : r.arc w.from w.label w.to ≡ false
+      absent = not_so (r.arc w.from w.label w.to) (λ a. (s.gone w.from w.label w.to a).1 (inl refl))
 
       room : standing r < 1024
-      room = omega (arith, fewer ((m, e, n) ∷ todo) m e n r s h absent, g.few_arcs)
+      room = omega (arith, fewer (w ∷ todo) w.from w.label w.to r s h absent, g.few_arcs)
 
-      fine : Fine W r m e n
-      fine = record {
-        inside = or_from (not (ltb m W)) (ltb r.events e || not (ltb n W)) (ap not (lt-ltb m W (g.few_stages m ends.0)))
-            (or_from (ltb r.events e) (not (ltb n W)) (le-ltb r.events e (omega (arith, s.events, ends.2))) (ap not (lt-ltb n W (g.few_stages n ends.1))));
-        alive = or_from (not (r.live m)) (not (r.live n)) (ap not (s.live m ∙ ends.0)) (ap not (s.live n ∙ ends.1));
-      }
+      fine : Fine W r w.from w.label w.to
+      fine = ends_fine W r w.from w.label w.to (record {
+        from_low = g.few_stages w.from ends.0;
+        to_low = g.few_stages w.to ends.1;
+        label = omega (arith, s.events, ends.2);
+        from_live = s.live w.from ∙ ends.0;
+        to_live = s.live w.to ∙ ends.1;
+      })
 
-      triple : (x y z : ℕ) → x ≡ m → y ≡ e → z ≡ n → ◌≡◌ {A = ℕ × ℕ × ℕ} (x, y, z) (m, e, n)
-      triple x y z p q u = λ i. (p i, q i, u i)
-
-      adds : (x y z : ℕ) → b.arc x y z ≡ true → (Among (x, y, z) todo → ⊥) →
-          ((eqb x m && (eqb y e && eqb z n)) ≡ true) ⊎ ((eqb x m && (eqb y e && eqb z n)) ≡ false) →
-          put_arc r.arc m e n true x y z ≡ true
+      adds : (x y z : ℕ) → b.arc x y z ≡ true → (Among (record { from = x; label = y; to = z }) todo → ⊥) →
+          ((eqb x w.from && (eqb y w.label && eqb z w.to)) ≡ true) ⊎ ((eqb x w.from && (eqb y w.label && eqb z w.to)) ≡ false) →
+          put_arc r.arc w.from w.label w.to true x y z ≡ true
       adds x y z a d (inl t) = ap (λ (v : Bool). cond v true (r.arc x y z)) t
       adds x y z a d (inr t) = ap (λ (v : Bool). cond v true (r.arc x y z)) t ∙ s.made x y z a other
         where
-          other : Among (x, y, z) ((m, e, n) ∷ todo) → ⊥
+          other : Among (record { from = x; label = y; to = z }) (w ∷ todo) → ⊥
           other (inl q) =
-              both_ways _ t (arc_same x y z m e n (ap (λ (w : ℕ × ℕ × ℕ). w.0) q) (ap (λ (w : ℕ × ℕ × ℕ). w.1) q) (ap (λ (w : ℕ × ℕ × ℕ). w.2) q))
+              both_ways _ t (arc_same x y z w.from w.label w.to (ap (λ (u : AnArc). u.from) q) (ap (λ (u : AnArc). u.label) q) (ap (λ (u : AnArc). u.to) q))
           other (inr k) = d k
 
-      only : (x y z : ℕ) → put_arc r.arc m e n true x y z ≡ true → ((eqb x m && (eqb y e && eqb z n)) ≡ true) ⊎ ((eqb x m && (eqb y e && eqb z n)) ≡ false) →
-          (b.arc x y z ≡ true) × (Among (x, y, z) todo → ⊥)
+      only : (x y z : ℕ) → put_arc r.arc w.from w.label w.to true x y z ≡ true →
+          ((eqb x w.from && (eqb y w.label && eqb z w.to)) ≡ true) ⊎ ((eqb x w.from && (eqb y w.label && eqb z w.to)) ≡ false) →
+          (b.arc x y z ≡ true) × (Among (record { from = x; label = y; to = z }) todo → ⊥)
       only x y z a (inl t) =
-          let q = same_arc x y z m e n t in
-          let k = triple x y z q.0 q.1 q.2 in
-          (subst (λ (w : ℕ × ℕ × ℕ). b.arc w.0 w.1 w.2 ≡ true) (sym k) h, λ u. single (subst (λ (w : ℕ × ℕ × ℕ). Among w todo) k u))
+          let q = same_arc x y z w.from w.label w.to t in
+          let k : ◌≡◌ {A = AnArc} (record { from = x; label = y; to = z }) w = λ i. record { from = q.0 i; label = q.1 i; to = q.2 i } in
+          (subst (λ (u : AnArc). b.arc u.from u.label u.to ≡ true) (sym k) h, λ m. single (subst (λ (u : AnArc). Among u todo) k m))
       only x y z a (inr t) =
           let p = s.gone x y z (sym (ap (λ (v : Bool). cond v true (r.arc x y z)) t) ∙ a) in
           (p.0, λ u. p.1 (inr u))
 
   -- all of them are added
-  arcs_made : (todo : List (ℕ × ℕ × ℕ)) (r : Rules) → NoRepeat todo → ((x : ℕ × ℕ × ℕ) → Among x todo → b.arc x.0 x.1 x.2 ≡ true) → Arced todo r →
-      (next : Rules) × Leads W (map arc_change todo) r next × Arced [] next
+  arcs_made : (todo : List AnArc) (r : Rules) → NoRepeat todo → ((x : AnArc) → Among x todo → b.arc x.from x.label x.to ≡ true) → Arced todo r →
+      (next : Rules) × Leads W (map Arc todo) r next × Arced [] next
   arcs_made [] r single stand s = (r, refl, s)
   arcs_made (x ∷ todo) r single stand s =
-      let a = arc_made x.0 x.1 x.2 todo r (stand x (inl refl)) single.0 s in
-      let q = arcs_made todo (changed r (arc_change x)) single.1 (λ y k. stand y (inr k)) a.1 in
+      let a = arc_made x todo r (stand x (inl refl)) single.0 s in
+      let q = arcs_made todo (changed r (Arc x)) single.1 (λ y k. stand y (inr k)) a.1 in
       (q.0, (a.0.0, q.1), q.2)
 
   arced_alike : (r : Rules) → Arced [] r → Alike b r
@@ -266,7 +267,7 @@ module _ (W : ℕ) (b : Rules) (wide : W ≤ 256) (g : WellFormed W b) where
       same x y z (inl h) = h ∙ sym (s.made x y z h (λ k. k))
       same x y z (inr h) = h ∙ sym (not_so (r.arc x y z) (λ a. both_ways (b.arc x y z) h (s.gone x y z a).0))
 
-ascending_single : (xs : List (ℕ × ℕ × ℕ)) → Ascending xs → NoRepeat xs
+ascending_single : (xs : List AnArc) → Ascending xs → NoRepeat xs
 ascending_single [] h = tt
 ascending_single (x ∷ xs) h = ((λ k. before_itself x (h.0 x k)), ascending_single xs h.1)
 
@@ -276,5 +277,5 @@ rebuilt W b changes wide g q =
     let stages = leads_each W (stage_change b) (Staged b) 256 (stage_step W b wide g) (fresh b.events) (fresh_staged W b wide g) in
     let arced = staged_arced W b wide g stages.0 q.arcs (λ x. (q.in_order.exactly x).1) stages.2 in
     let arcs = arcs_made W b wide g q.arcs stages.0 (ascending_single q.arcs q.in_order.ascending) (λ x. (q.in_order.exactly x).0) arced in
-    let all = leads_append W (stage_changes b) (map arc_change q.arcs) (fresh b.events) stages.0 arcs.0 stages.1 arcs.1 in
+    let all = leads_append W (stage_changes b) (map Arc q.arcs) (fresh b.events) stages.0 arcs.0 stages.1 arcs.1 in
     (arcs.0, subst (λ (chs : List Change). Leads W chs (fresh b.events) arcs.0) (sym q.are) all, arced_alike W b wide g arcs.0 arcs.2)

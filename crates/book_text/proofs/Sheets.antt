@@ -1,43 +1,59 @@
--- Changes written line by line, in sheets.
-use Rattle.std.proofs.Common.{◌≡◌, ℕ, zero, suc, ◌+◌, ◌-◌, ◌<◌, ◌≤◌, List, [], ◌∷◌, ◌++◌, length, get_or, drop, codes, decimal, sym, refl, ap, ◌∙◌, append_assoc, arith}
-use Rattle.std.proofs.lemmas.List.{drop_more, drop_all}
+-- Changes written in sheets.
+use Rattle.std.proofs.Common.{◌≡◌, ℕ, zero, suc, ◌<◌, min, List, [], ◌∷◌, ◌++◌, map, length, codes, decimal, sym, refl, ap, ◌∙◌, append_assoc, append-nil, arith, length-append}
+use Rattle.std.specs.List.{flat_map}
 use Rattle.rules.specs.declared.change.Change.{Change}
-use Rattle.rules.specs.ChangeLines.{change_line}
-use Rattle.book_text.specs.Canonical.{line_text, in_sheets, text_of}
+use Rattle.rules.specs.declared.change.Change.TheVariants.{Arc}
+use Rattle.rules.specs.Rules.{Rules}
+use Rattle.rules.specs.Listing.{each_below}
+use Rattle.book_text.specs.Canonical.{line_text, in_sheets, text_of, stage_change, CanonicalChanges}
 
-pub after_full_sheet : (text ended next : List ℕ) (room : ℕ) (ch : Change) (more : List Change) → room ≡ 0 →
-    ended ≡ text ++ codes "end\n" → next ≡ ended ++ line_text ch → next ++ in_sheets 63 more ≡ text ++ in_sheets room (ch ∷ more)
+-- what is still to be written before a sheet: nothing where no change is left
+abbrev pub sheets_left : List Change → List ℕ
+sheets_left [] = []
+sheets_left (ch ∷ chs) = in_sheets 64 (ch ∷ chs)
+
+pub some_left : (chs : List Change) → 0 < length chs → sheets_left chs ≡ in_sheets 64 chs
+some_left [] h = absurd (omega arith)
+some_left (ch ∷ chs) h = refl
+
+none_left : (chs : List Change) → length chs ≡ 0 → sheets_left chs ≡ []
+none_left [] h = refl
+none_left (ch ∷ chs) h = absurd (omega arith)
+
+-- a sheet, which is full where changes are left behind it
+one_sheet : (room : ℕ) (sheet rest : List Change) → length sheet ≡ min room (length (sheet ++ rest)) →
+    in_sheets room (sheet ++ rest) ≡ flat_map line_text sheet ++ (codes "end\n" ++ sheets_left rest)
 unfolding in_sheets
-after_full_sheet text ended next room ch more e p q =
-    ap (λ (x : List ℕ). x ++ in_sheets 63 more) (q ∙ ap (λ (x : List ℕ). x ++ line_text ch) p)
-    ∙ append_assoc (text ++ codes "end\n") (line_text ch) (in_sheets 63 more)
-    ∙ append_assoc text (codes "end\n") (line_text ch ++ in_sheets 63 more)
-    ∙ ap (λ (k : ℕ). text ++ in_sheets k (ch ∷ more)) (sym e)
+one_sheet zero [] [] h = refl
+one_sheet (suc room) [] [] h = refl
+one_sheet zero [] (ch ∷ chs) h = refl
+one_sheet (suc room) [] (ch ∷ chs) h = absurd (omega arith)
+one_sheet zero (ch ∷ chs) rest h = absurd (omega arith)
+one_sheet (suc room) (ch ∷ chs) rest h =
+    ap (λ (x : List ℕ). line_text ch ++ x) (one_sheet room chs rest (omega arith))
+    ∙ sym (append_assoc (line_text ch) (flat_map line_text chs) (codes "end\n" ++ sheets_left rest))
 
-pub within_sheet : (text next : List ℕ) (room : ℕ) (ch : Change) (more : List Change) → (room ≡ 0 → ⊥) → next ≡ text ++ line_text ch →
-    next ++ in_sheets (room - 1) more ≡ text ++ in_sheets room (ch ∷ more)
-unfolding in_sheets
-within_sheet text next zero ch more d p = absurd (d refl)
-within_sheet text next (suc room) ch more d p =
-    let e : suc room - 1 ≡ room = omega arith in
-    ap (λ (k : ℕ). next ++ in_sheets k more) e ∙ ap (λ (x : List ℕ). x ++ in_sheets room more) p ∙ append_assoc text (line_text ch) (in_sheets room more)
+pub sheet_written : (old lines ended all : List ℕ) (size : ℕ) (left sheet rest : List Change) → size ≡ 64 → left ≡ sheet ++ rest → length sheet ≡ min size (length left) →
+    0 < length left → lines ≡ old ++ flat_map line_text sheet → ended ≡ lines ++ codes "end\n" → old ++ sheets_left left ≡ all → ended ++ sheets_left rest ≡ all
+sheet_written old lines ended all size left sheet rest z e l some p q inv =
+    ap (λ (x : List ℕ). x ++ sheets_left rest) (q ∙ ap (λ (x : List ℕ). x ++ codes "end\n") p)
+    ∙ append_assoc (old ++ flat_map line_text sheet) (codes "end\n") (sheets_left rest)
+    ∙ append_assoc old (flat_map line_text sheet) (codes "end\n" ++ sheets_left rest)
+    ∙ ap (λ (x : List ℕ). old ++ x) (sym (some_left left some ∙ ap (in_sheets 64) e ∙ one_sheet 64 sheet rest (omega (arith, z, l, ap length e))))
+    ∙ inv
 
--- a line and the byte 10 behind it
-pub line_ended : (text with_line line next : List ℕ) (ch : Change) → with_line ≡ text ++ line → line ≡ change_line ch → next ≡ with_line ++ (10 ∷ []) → next ≡ text ++ line_text ch
-line_ended text with_line line next ch p q r =
-    r ∙ ap (λ (x : List ℕ). x ++ (10 ∷ [])) (p ∙ ap (λ (x : List ℕ). text ++ x) q) ∙ append_assoc text (change_line ch) (10 ∷ [])
+pub all_written : (text all : List ℕ) (left : List Change) → length left ≡ 0 → text ++ sheets_left left ≡ all → text ≡ all
+all_written text all left h inv = sym (ap (λ (x : List ℕ). text ++ x) (none_left left h) ∙ append-nil text) ∙ inv
 
--- one more change is written
-pub sheets_more : (chs : List Change) (i : ℕ) (d : Change) (room left : ℕ) (text next all : List ℕ) → i < length chs →
-    ((more : List Change) → next ++ in_sheets left more ≡ text ++ in_sheets room (get_or chs i d ∷ more)) → text ++ in_sheets room (drop i chs) ≡ all →
-    next ++ in_sheets left (drop (i + 1) chs) ≡ all
-sheets_more chs i d room left text next all lt step inv =
-    step (drop (i + 1) chs) ∙ ap (λ (x : List Change). text ++ in_sheets room x) (sym (drop_more chs i d lt)) ∙ inv
+-- there is one change at least, that of stage 0
+some_stage : (b : Rules) (n : ℕ) → 0 < length (each_below (suc n) (stage_change b))
+unfolding each_below
+some_stage b zero = omega arith
+some_stage b (suc n) = omega (arith, length-append (each_below (suc n) (stage_change b)) (stage_change b (suc n)), some_stage b n)
 
-pub sheets_done : (chs : List Change) (i room : ℕ) (text next all : List ℕ) → length chs ≤ i → next ≡ text ++ codes "end\n" →
-    text ++ in_sheets room (drop i chs) ≡ all → next ≡ all
-unfolding in_sheets
-sheets_done chs i room text next all le p inv = p ∙ ap (λ (x : List Change). text ++ in_sheets room x) (sym (drop_all i chs le)) ∙ inv
+pub some_change : (b : Rules) (chs given : List Change) → given ≡ chs → CanonicalChanges b chs → 0 < length given
+some_change b chs given e c =
+    omega (arith, ap length (e ∙ c.are), length-append (each_below 256 (stage_change b)) (map Arc c.arcs), some_stage b 255)
 
 -- the first line and the sheets make the text
 pub whole_text : (E n : ℕ) (first text : List ℕ) (chs given : List Change) → first ≡ decimal n ++ (10 ∷ []) → n ≡ E → text ≡ first ++ in_sheets 64 given →

@@ -1,186 +1,131 @@
--- Sorted keys are the arcs of a book in ascending order.
-use Rattle.std.proofs.Common.{◌≡◌, ℕ, zero, suc, ◌+◌, ◌/◌, ◌%◌, ◌<◌, ◌≤◌, Bool, true, false, cond, ◌&&◌, ◌||◌, eqb, ◌⊎◌, List, [], ◌∷◌, map, length, get_or, count_by, sym, refl, ap, ◌∙◌, subst, inl, inr, arith}
-use Rattle.std.specs.List.Sorted.{IsNonDecreasing, IsPermutation}
-use Rattle.std.proofs.lemmas.List.Sorted.{sum_by-IsPermutation}
+-- The arcs of a book's slots, sorted, are its arcs in order.
+use Rattle.std.proofs.Common.{◌≡◌, ℕ, zero, suc, ◌+◌, ◌<◌, ◌≤◌, Bool, true, false, cond, eqb, ltb, ◌⊎◌, List, [], ◌∷◌, Some, None, Option, Ordering, Less, Equal, Greater, count_by, get_or, is_lt, nat_cmp, sym, refl, ap, ◌∙◌, subst, inl, inr, arith}
+use Rattle.std.specs.List.{filter_map}
+use Rattle.std.specs.List.Sorted.{IsPermutation, IsSorted}
+use Rattle.std.specs.Ordering.{ordering_then}
+use Rattle.std.proofs.lemmas.Bool.{true≢false, eqb-true, eqb-false, ltb-true, ltb-false, lt-ltb, cases_lt, cases_Bool}
 use Rattle.std.proofs.lemmas.List.Sums.{sum_by-cons}
-use Rattle.std.proofs.lemmas.Bool.{false≢true, eqb-true, eq-eqb, ne_eqb, and_from, cases_Bool, cases_lt}
-use Rattle.rules.specs.Rules.{Rules, WellFormed}
+use Rattle.std.proofs.lemmas.List.Sorted.{sum_by-IsPermutation}
+use Rattle.rules.specs.declared.change.Arc.{Arc}
+use Rattle.rules.specs.Rules.{Rules}
 use Rattle.rules.specs.Counts.{Among}
-use Rattle.book.specs.declared.slots.Slot.{Slot}
-use Rattle.book.specs.Slots.{here, arcs_in, once}
-use Rattle.rules.proofs.Booleans.{or_left, or_right}
-use Rattle.book.proofs.SlotWrites.{bit_one, bit_none, same_arc, arc_same, once_tail, once_not_both}
+use Rattle.book.specs.Slots.{here, arcs_in, Once}
+use Rattle.book.proofs.SlotWrites.{any_count, bit_one, bit_none, same_arc, arc_same}
 use Rattle.book_text.specs.Canonical.{ArcBefore, Ascending, ArcsInOrder}
-use Rattle.book_text.specs.Keys.{key_of, arc_of, keys_in}
 
--- how often a number stands in a list
-abbrev times : ℕ → List ℕ → ℕ
-times k xs = count_by (λ x. eqb x k) xs
+-- how often an arc stands in a list
+abbrev times : ℕ → ℕ → ℕ → List Arc → ℕ
+times m e n xs = count_by (λ a. here m e n (Some a)) xs
 
-times_cons : (k x : ℕ) (xs : List ℕ) → times k (x ∷ xs) ≡ cond {A = ℕ} (eqb x k) 1 0 + times k xs
-times_cons k x xs = sum_by-cons (λ y. cond (eqb y k) 1 0) x xs
+times_cons : (m e n : ℕ) (x : Arc) (xs : List Arc) → times m e n (x ∷ xs) ≡ cond {A = ℕ} (here m e n (Some x)) 1 0 + times m e n xs
+times_cons m e n x xs = sum_by-cons (λ a. cond (here m e n (Some a)) 1 0) x xs
 
--- arcs whose order their keys tell
-abbrev Low : List Slot → Type 0
-Low ss = (m e n : ℕ) → arcs_in ss m e n ≡ true → (m < 256) × (e < 16) × (n < 256)
+-- as often as in the slots
+times_slots : (m e n : ℕ) (ss : List (Option Arc)) → times m e n (filter_map (λ s. s) ss) ≡ count_by (here m e n) ss
+times_slots m e n [] = refl
+times_slots m e n (None ∷ ss) = omega (arith, sum_by-cons (λ s. cond (here m e n s) 1 0) None ss, times_slots m e n ss)
+times_slots m e n (Some a ∷ ss) =
+    omega (arith, sum_by-cons (λ s. cond (here m e n s) 1 0) (Some a) ss, times_cons m e n a (filter_map (λ s. s) ss), times_slots m e n ss)
 
-low_tail : (s : Slot) (ss : List Slot) → Low (s ∷ ss) → Low ss
-unfolding arcs_in
-low_tail s ss low m e n h = low m e n (or_right (here s m e n) (arcs_in ss m e n) h)
-
--- whether the slot has these numbers
-abbrev named : Slot → ℕ → ℕ → ℕ → Bool
-named s m e n = eqb m s.from && (eqb e s.label && eqb n s.to)
-
--- a key stands among the keys once if its arc stands, and else not at all
-times_keys : (ss : List Slot) (m e n : ℕ) → e < 16 → n < 256 → Low ss → once ss ≡ true → times (key_of m e n) (keys_in ss) ≡ cond (arcs_in ss m e n) 1 0
-unfolding keys_in arcs_in
-times_keys [] m e n p q low o = refl
-times_keys (s ∷ ss) m e n p q low o = go (cases_Bool s.stands) (times_keys ss m e n p q (low_tail s ss low) (once_tail s ss o))
-  where
-    mine : s.stands ≡ true → (s.from < 256) × (s.label < 16) × (s.to < 256)
-    mine st = low s.from s.label s.to (or_left (here s s.from s.label s.to) (arcs_in ss s.from s.label s.to)
-        (and_from s.stands _ st (arc_same s.from s.label s.to s.from s.label s.to refl refl refl)))
-
-    found : s.stands ≡ true → (named s m e n ≡ true) ⊎ (named s m e n ≡ false) → times (key_of m e n) (keys_in ss) ≡ cond {A = ℕ} (arcs_in ss m e n) 1 0 →
-        cond {A = ℕ} (eqb (key_of s.from s.label s.to) (key_of m e n)) 1 0 + times (key_of m e n) (keys_in ss) ≡ cond {A = ℕ} (here s m e n || arcs_in ss m e n) 1 0
-    found st (inl h) r =
-        let at = same_arc m e n s.from s.label s.to h in
-        let it : here s m e n ≡ true = and_from s.stands (named s m e n) st h in
-        let a = bit_one _ (eq-eqb (key_of s.from s.label s.to) (key_of m e n) (omega (arith, at.0, at.1, at.2))) in
-        let b = bit_none _ (once_not_both s ss m e n o it) in
-        let d = bit_one (here s m e n || arcs_in ss m e n) (or_left (here s m e n) (arcs_in ss m e n) it) in
-        omega (arith, a, b, d, r)
-    found st (inr h) r =
-        let fit = mine st in
-        let apart : key_of s.from s.label s.to ≡ key_of m e n → ⊥ = λ k. false≢true (sym h ∙ arc_same m e n s.from s.label s.to
-        (omega (arith, fit.1, fit.2)) (omega (arith, fit.1, fit.2)) (omega (arith, fit.1, fit.2))) in
-        let a = bit_none _ (ne_eqb (key_of s.from s.label s.to) (key_of m e n) apart) in
-        let d : cond {A = ℕ} (here s m e n || arcs_in ss m e n) 1 0 ≡ cond {A = ℕ} (arcs_in ss m e n) 1 0 =
-        ap (λ (v : Bool). cond {A = ℕ} ((v && named s m e n) || arcs_in ss m e n) 1 0) st ∙ ap (λ (v : Bool). cond {A = ℕ} (v || arcs_in ss m e n) 1 0) h in
-        omega (arith, a, d, r)
-
-    go : (s.stands ≡ true) ⊎ (s.stands ≡ false) → times (key_of m e n) (keys_in ss) ≡ cond {A = ℕ} (arcs_in ss m e n) 1 0 →
-        times (key_of m e n) (cond s.stands (key_of s.from s.label s.to ∷ keys_in ss) (keys_in ss)) ≡ cond {A = ℕ} (here s m e n || arcs_in ss m e n) 1 0
-    go (inl st) r =
-        ap (λ (v : Bool). times (key_of m e n) (cond v (key_of s.from s.label s.to ∷ keys_in ss) (keys_in ss))) st
-        ∙ times_cons (key_of m e n) (key_of s.from s.label s.to) (keys_in ss)
-        ∙ found st (cases_Bool (named s m e n)) r
-    go (inr st) r =
-        ap (λ (v : Bool). times (key_of m e n) (cond v (key_of s.from s.label s.to ∷ keys_in ss) (keys_in ss))) st
-        ∙ r
-        ∙ sym (ap (λ (v : Bool). cond {A = ℕ} ((v && named s m e n) || arcs_in ss m e n) 1 0) st)
-
--- so does any number
-times_key : (ss : List Slot) (k : ℕ) → Low ss → once ss ≡ true → times k (keys_in ss) ≡ cond (arcs_in ss (k / 4096) (k / 256 % 16) (k % 256)) 1 0
-times_key ss k low o =
-    subst (λ (j : ℕ). times j (keys_in ss) ≡ cond (arcs_in ss (k / 4096) (k / 256 % 16) (k % 256)) 1 0) (omega arith)
-    (times_keys ss (k / 4096) (k / 256 % 16) (k % 256) (omega arith) (omega arith) low o)
+itself : (x : Arc) → here x.from x.label x.to (Some x) ≡ true
+itself x = arc_same x.from x.label x.to x.from x.label x.to refl refl refl
 
 -- what stands in a list stands there at least once, and the other way round
-among_times : (k : ℕ) (xs : List ℕ) → Among k xs → 1 ≤ times k xs
-among_times k [] h = absurd h
-among_times k (x ∷ xs) (inl e) = omega (arith, times_cons k x xs, bit_one _ (eq-eqb x k (sym e)))
-among_times k (x ∷ xs) (inr h) = omega (arith, times_cons k x xs, among_times k xs h)
+among_times : (x : Arc) (xs : List Arc) → Among x xs → 1 ≤ times x.from x.label x.to xs
+among_times x [] h = absurd h
+among_times x (y ∷ ys) (inl e) =
+    omega (arith, times_cons x.from x.label x.to y ys, bit_one _ (ap (λ (z : Arc). here x.from x.label x.to (Some z)) (sym e) ∙ itself x))
+among_times x (y ∷ ys) (inr h) = omega (arith, times_cons x.from x.label x.to y ys, among_times x ys h)
 
-times_among : (k : ℕ) (xs : List ℕ) → 1 ≤ times k xs → Among k xs
-times_among k [] h = absurd (omega arith)
-times_among k (x ∷ xs) h = go (cases_Bool (eqb x k)) (times_among k xs)
+times_among : (x : Arc) (xs : List Arc) → 1 ≤ times x.from x.label x.to xs → Among x xs
+times_among x [] h = absurd (omega arith)
+times_among x (y ∷ ys) h = go (cases_Bool (here x.from x.label x.to (Some y))) (times_among x ys)
   where
-    go : (eqb x k ≡ true) ⊎ (eqb x k ≡ false) → (1 ≤ times k xs → Among k xs) → Among k (x ∷ xs)
-    go (inl e) r = inl (sym (eqb-true x k e))
-    go (inr e) r = inr (r (omega (arith, h, times_cons k x xs, bit_none _ e)))
+    go : (here x.from x.label x.to (Some y) ≡ true) ⊎ (here x.from x.label x.to (Some y) ≡ false) → (1 ≤ times x.from x.label x.to ys → Among x ys) → Among x (y ∷ ys)
+    go (inl e) r = let q = same_arc x.from x.label x.to y.from y.label y.to e in inl (λ i. record { from = q.0 i; label = q.1 i; to = q.2 i })
+    go (inr e) r = inr (r (omega (arith, h, times_cons x.from x.label x.to y ys, bit_none _ e)))
 
-among_at : (k : ℕ) (xs : List ℕ) → Among k xs → (j : ℕ) × (j < length xs) × (get_or xs j 0 ≡ k)
-among_at k [] h = absurd h
-among_at k (x ∷ xs) (inl e) = (zero, omega arith, sym e)
-among_at k (x ∷ xs) (inr h) = let r = among_at k xs h in (suc r.0, omega (arith, r.1), r.2)
+-- the order of arcs
+abbrev arc_cmp : Arc → Arc → Ordering
+arc_cmp x y = ordering_then (nat_cmp x.from y.from) (ordering_then (nat_cmp x.label y.label) (nat_cmp x.to y.to))
 
-among_map : (y : ℕ × ℕ × ℕ) (xs : List ℕ) → Among y (map arc_of xs) → (k : ℕ) × Among k xs × (y ≡ arc_of k)
-among_map y [] h = absurd h
-among_map y (x ∷ xs) (inl e) = (x, inl refl, e)
-among_map y (x ∷ xs) (inr h) = let r = among_map y xs h in (r.0, inr r.1, r.2)
-
-map_among : (k : ℕ) (xs : List ℕ) → Among k xs → Among (arc_of k) (map arc_of xs)
-map_among k [] h = absurd h
-map_among k (x ∷ xs) (inl e) = inl (ap arc_of e)
-map_among k (x ∷ xs) (inr h) = inr (map_among k xs h)
-
--- smaller keys are those of arcs that stand before
-key_before : (j k : ℕ) → j < k → k < 1048576 → ArcBefore (arc_of j) (arc_of k)
-key_before j k lt top = from (cases_lt (j / 4096 % 256) (k / 4096 % 256))
+level : (a b : ℕ) (o : Ordering) → is_lt (ordering_then (nat_cmp b a) o) ≡ false → (a < b) ⊎ ((a ≡ b) × (is_lt o ≡ false))
+level a b o h = go (ltb b a) (eqb b a) refl refl h
   where
-    to : j / 4096 % 256 ≡ k / 4096 % 256 → (j / 256 % 16 < k / 256 % 16) ⊎ (k / 256 % 16 ≤ j / 256 % 16) → ArcBefore (arc_of j) (arc_of k)
-    to e (inl l) = inr (e, inl l)
-    to e (inr l) = inr (e, inr (omega arith, omega arith))
+    go : (u v : Bool) → ltb b a ≡ u → eqb b a ≡ v → is_lt (ordering_then (cond u Less (cond v Equal Greater)) o) ≡ false →
+        (a < b) ⊎ ((a ≡ b) × (is_lt o ≡ false))
+    go true v p q r = absurd (true≢false r)
+    go false true p q r = inr (sym (eqb-true b a q), r)
+    go false false p q r = let d = eqb-false b a q in let l = ltb-false b a p in inl (omega arith)
 
-    from : (j / 4096 % 256 < k / 4096 % 256) ⊎ (k / 4096 % 256 ≤ j / 4096 % 256) → ArcBefore (arc_of j) (arc_of k)
-    from (inl l) = inl l
-    from (inr l) = to (omega arith) (cases_lt (j / 256 % 16) (k / 256 % 16))
-
-ascends : (ks : List ℕ) → IsNonDecreasing ks → ((k : ℕ) → times k ks ≤ 1) → ((k : ℕ) → Among k ks → k < 1048576) → Ascending (map arc_of ks)
-ascends [] up once-each top = tt
-ascends (k ∷ ks) up once-each top = (
-  (λ y h. let r = among_map y ks h in subst (ArcBefore (arc_of k)) (sym r.2) (key_before k r.0 (later r.0 r.1) (top r.0 (inr r.1)))),
-  ascends ks (λ i j d le lt. up (suc i) (suc j) d (omega arith) (omega arith)) (λ j. omega (arith, once-each j, times_cons j k ks)) (λ j h. top j (inr h)),
-)
+last : (a b : ℕ) → is_lt (nat_cmp b a) ≡ false → a ≤ b
+last a b h = go (ltb b a) refl h
   where
-    later : (j : ℕ) → Among j ks → k < j
-    later j h =
-        let at = among_at j ks h in
-        let le : k ≤ get_or ks at.0 0 = up zero (suc at.0) 0 (omega arith) (omega (arith, at.1)) in
-        let apart : k ≡ j → ⊥ = λ e. omega (arith, once-each j, times_cons j k ks, bit_one _ (eq-eqb k j e), among_times j ks h) in
-        omega (arith, le, at.2, apart)
+    go : (u : Bool) → ltb b a ≡ u → is_lt (cond u Less (cond (eqb b a) Equal Greater)) ≡ false → a ≤ b
+    go true p r = absurd (true≢false r)
+    go false p r = ltb-false b a p
 
-pub sorted_arcs : (b : Rules) (ss : List Slot) (ks : List ℕ) → WellFormed 256 b → arcs_in ss ≡ b.arc → once ss ≡ true → IsPermutation (keys_in ss) ks → IsNonDecreasing ks →
-    ArcsInOrder b (map arc_of ks)
-sorted_arcs b ss ks g arcs o mixed up = record { ascending = ascends ks up (λ k. one k) (λ k h. (fit k h).0); exactly = λ x. (there x, back x) }
+in_order : (x y : Arc) → is_lt (arc_cmp y x) ≡ false → ArcBefore x y ⊎ (x ≡ y)
+in_order x y h = by_from (level x.from y.from _ h)
   where
-    same : (m e n : ℕ) → arcs_in ss m e n ≡ b.arc m e n
-    same m e n = ap (λ (f : ℕ → ℕ → ℕ → Bool). f m e n) arcs
+    by_to : x.from ≡ y.from → x.label ≡ y.label → x.to ≤ y.to → (x.to < y.to) ⊎ (y.to ≤ x.to) → ArcBefore x y ⊎ (x ≡ y)
+    by_to e f le (inl l) = inl (inr (e, inr (f, l)))
+    by_to e f le (inr l) = let g : x.to ≡ y.to = omega arith in inr (λ i. record { from = e i; label = f i; to = g i })
 
-    low : Low ss
-    low m e n h = let p = g.arc_fits m e n (sym (same m e n) ∙ h) in (g.few_stages m p.0, omega (arith, p.2, g.few_events), g.few_stages n p.1)
+    by_label : x.from ≡ y.from → (x.label < y.label) ⊎ ((x.label ≡ y.label) × (is_lt (nat_cmp y.to x.to) ≡ false)) → ArcBefore x y ⊎ (x ≡ y)
+    by_label e (inl l) = inl (inr (e, inl l))
+    by_label e (inr r) = by_to e r.0 (last x.to y.to r.1) (cases_lt x.to y.to)
 
-    counted : (k : ℕ) → times k ks ≡ cond (arcs_in ss (k / 4096) (k / 256 % 16) (k % 256)) 1 0
-    counted k = sum_by-IsPermutation (λ x. cond (eqb x k) 1 0) (keys_in ss) ks mixed ∙ times_key ss k low o
+    by_from : (x.from < y.from) ⊎ ((x.from ≡ y.from) × (is_lt (ordering_then (nat_cmp y.label x.label) (nat_cmp y.to x.to)) ≡ false)) → ArcBefore x y ⊎ (x ≡ y)
+    by_from (inl l) = inl (inl l)
+    by_from (inr r) = by_label r.0 (level x.label y.label _ r.1)
 
-    bit_small : (v : Bool) → cond {A = ℕ} v 1 0 ≤ 1
-    bit_small true = omega arith
-    bit_small false = omega arith
+before_trans : (x y z : Arc) → ArcBefore x y → ArcBefore y z → ArcBefore x z
+before_trans x y z (inl l) (inl k) = inl (omega arith)
+before_trans x y z (inl l) (inr (e, k)) = inl (omega arith)
+before_trans x y z (inr (e, l)) (inl k) = inl (omega arith)
+before_trans x y z (inr (e, inl l)) (inr (f, inl k)) = inr (omega arith, inl (omega arith))
+before_trans x y z (inr (e, inl l)) (inr (f, inr (g, k))) = inr (omega arith, inl (omega arith))
+before_trans x y z (inr (e, inr (h, l))) (inr (f, inl k)) = inr (omega arith, inl (omega arith))
+before_trans x y z (inr (e, inr (h, l))) (inr (f, inr (g, k))) = inr (omega arith, inr (omega arith, omega arith))
 
-    one : (k : ℕ) → times k ks ≤ 1
-    one k = omega (arith, counted k, bit_small (arcs_in ss (k / 4096) (k / 256 % 16) (k % 256)))
+ascends : (xs : List Arc) → IsSorted arc_cmp xs → ((m e n : ℕ) → times m e n xs ≤ 1) → Ascending xs
+ascends [] up single = tt
+ascends (x ∷ []) up single = ((λ y h. absurd h), tt)
+ascends (x ∷ y ∷ ys) up single = rest (ascends (y ∷ ys) later (λ m e n. omega (arith, single m e n, times_cons m e n x (y ∷ ys))))
+  where
+    later : IsSorted arc_cmp (y ∷ ys)
+    later k d le lt = let e : suc k + 1 ≡ suc (k + 1) = omega arith in
+        subst (λ (j : ℕ). is_lt (arc_cmp (get_or (x ∷ y ∷ ys) j d) (get_or (y ∷ ys) k d)) ≡ false) e (up (suc k) d (omega arith) (omega arith))
 
-    bit_on : (v : Bool) → 1 ≤ cond {A = ℕ} v 1 0 → v ≡ true
-    bit_on true h = refl
-    bit_on false h = absurd (omega arith)
+    first : ArcBefore x y ⊎ (x ≡ y) → ArcBefore x y
+    first (inl b) = b
+    first (inr e) = absurd (omega (arith, single x.from x.label x.to, times_cons x.from x.label x.to x (y ∷ ys), bit_one _ (itself x), among_times x (y ∷ ys) (inl e)))
 
-    fit : (k : ℕ) → Among k ks → (k < 1048576) × (arcs_in ss (k / 4096) (k / 256 % 16) (k % 256) ≡ true)
-    fit k h =
-        let st = bit_on (arcs_in ss (k / 4096) (k / 256 % 16) (k % 256)) (omega (arith, counted k, among_times k ks h)) in
-        (omega (arith, (low _ _ _ st).0), st)
+    before : ArcBefore x y
+    before = first (in_order x y (up zero x (omega arith) (omega arith)))
 
-    there : (x : ℕ × ℕ × ℕ) → Among x (map arc_of ks) → b.arc x.0 x.1 x.2 ≡ true
-    there x h =
-        let r = among_map x ks h in
-        let f = fit r.0 r.1 in
-        let whole : r.0 / 4096 % 256 ≡ r.0 / 4096 = omega (arith, f.0) in
-        subst (λ (y : ℕ × ℕ × ℕ). b.arc y.0 y.1 y.2 ≡ true) (sym r.2)
-        (sym (same _ _ _) ∙ ap (λ (m : ℕ). arcs_in ss m (r.0 / 256 % 16) (r.0 % 256)) whole ∙ f.1)
-
-    back : (x : ℕ × ℕ × ℕ) → b.arc x.0 x.1 x.2 ≡ true → Among x (map arc_of ks)
-    back x h =
-        let st = same x.0 x.1 x.2 ∙ h in
-        let f = low x.0 x.1 x.2 st in
-        let k = key_of x.0 x.1 x.2 in
-        let e : (x.0, x.1, x.2) ≡ arc_of (key_of x.0 x.1 x.2) = key_back x.0 x.1 x.2 f.0 f.1 f.2 in
-        let n : times k ks ≡ 1 = sum_by-IsPermutation (λ y. cond (eqb y k) 1 0) (keys_in ss) ks mixed ∙ times_keys ss x.0 x.1 x.2 f.1 f.2 low o ∙ bit_one _ st in
-        subst (λ (y : ℕ × ℕ × ℕ). Among y (map arc_of ks)) (sym e) (map_among k ks (times_among k ks (omega (arith, n))))
+    rest : Ascending (y ∷ ys) → Ascending (x ∷ y ∷ ys)
+    rest a = (all, a)
       where
-        key_back : (m e n : ℕ) → m < 256 → e < 16 → n < 256 → (m, e, n) ≡ arc_of (key_of m e n)
-        key_back m e n p q r =
-            let a : m ≡ key_of m e n / 4096 % 256 = omega arith in
-            let c : e ≡ key_of m e n / 256 % 16 = omega arith in
-            let d : n ≡ key_of m e n % 256 = omega arith in
-            λ i. (a i, c i, d i)
+        all : (z : Arc) → Among z (y ∷ ys) → ArcBefore x z
+        all z (inl e) = subst (ArcBefore x) (sym e) before
+        all z (inr h) = before_trans x y z before (a.0 z h)
+
+pub sorted_arcs : (b : Rules) (ss : List (Option Arc)) (xs ys : List Arc) → arcs_in ss ≡ b.arc → Once ss → xs ≡ filter_map (λ s. s) ss → IsPermutation xs ys → IsSorted arc_cmp ys →
+    ArcsInOrder b ys
+sorted_arcs b ss xs ys arcs o e mixed up = record { ascending = ascends ys up (λ m e n. omega (arith, o m e n, counted m e n)); exactly = λ x. (there x, back x) }
+  where
+    counted : (m e n : ℕ) → times m e n ys ≡ count_by (here m e n) ss
+    counted m k n =
+        sum_by-IsPermutation (λ a. cond (here m k n (Some a)) 1 0) xs ys mixed ∙ ap (times m k n) e ∙ times_slots m k n ss
+
+    stands : (x : Arc) → b.arc x.from x.label x.to ≡ ltb 0 (times x.from x.label x.to ys)
+    stands x =
+        sym (ap (λ (f : ℕ → ℕ → ℕ → Bool). f x.from x.label x.to) arcs) ∙ any_count (here x.from x.label x.to) ss ∙ ap (ltb 0) (sym (counted x.from x.label x.to))
+
+    there : (x : Arc) → Among x ys → b.arc x.from x.label x.to ≡ true
+    there x h = stands x ∙ lt-ltb 0 _ (among_times x ys h)
+
+    back : (x : Arc) → b.arc x.from x.label x.to ≡ true → Among x ys
+    back x h = times_among x ys (ltb-true 0 _ (sym (stands x) ∙ h))

@@ -1,5 +1,6 @@
 -- The canonical changes and the canonical text of a rule book.
 use Rattle.std.specs.Prelude.{◌≡◌, ℕ, zero, suc, ◌<◌, ◌≤◌, true, cond, ◌⊎◌, ◌↔◌, List, [], ◌∷◌, ◌++◌, map, codes, decimal, ◌==◌}
+use Rattle.rules.specs.declared.change.Arc.{Arc as AnArc}
 use Rattle.rules.specs.declared.change.Change.{Change}
 use Rattle.rules.specs.declared.change.Change.TheVariants.{Stage, Arc, Mark}
 use Rattle.rules.specs.Rules.{Rules, Alike, WellFormed, fresh}
@@ -16,30 +17,26 @@ stage_change b n = cond (n == 0) (Mark 0 (b.mark 0) ∷ []) (cond (b.live n) (St
 abbrev pub stage_changes : Rules → List Change
 stage_changes b = each_below 256 (stage_change b)
 
--- One arc (from, label, to) stands before another: its from stage is smaller, or that is equal and its label is smaller,
--- or both are equal and its to stage is smaller.
-abbrev pub ArcBefore : (ℕ × ℕ × ℕ) → (ℕ × ℕ × ℕ) → Type 0
-ArcBefore x y = (x.0 < y.0) ⊎ ((x.0 ≡ y.0) × ((x.1 < y.1) ⊎ ((x.1 ≡ y.1) × (x.2 < y.2))))
+-- One arc stands before another: its from stage is smaller, or that is equal and its label is smaller, or both are equal
+-- and its to stage is smaller.
+abbrev pub ArcBefore : AnArc → AnArc → Type 0
+ArcBefore x y = (x.from < y.from) ⊎ ((x.from ≡ y.from) × ((x.label < y.label) ⊎ ((x.label ≡ y.label) × (x.to < y.to))))
 
 -- Each arc stands before all that follow.
-abbrev pub Ascending : List (ℕ × ℕ × ℕ) → Type 0
+abbrev pub Ascending : List AnArc → Type 0
 Ascending [] = Unit {0}
-Ascending (x ∷ xs) = ((y : ℕ × ℕ × ℕ) → Among y xs → ArcBefore x y) × Ascending xs
+Ascending (x ∷ xs) = ((y : AnArc) → Among y xs → ArcBefore x y) × Ascending xs
 
 -- All the arcs of the book, in ascending order.
-pub record ArcsInOrder (b : Rules) (arcs : List (ℕ × ℕ × ℕ)) : Type 0 where
+pub record ArcsInOrder (b : Rules) (arcs : List AnArc) : Type 0 where
   pub ascending : Ascending arcs
-  pub exactly : (x : ℕ × ℕ × ℕ) → Among x arcs ↔ (b.arc x.0 x.1 x.2 ≡ true)
-
--- The change that adds an arc.
-abbrev pub arc_change : (ℕ × ℕ × ℕ) → Change
-arc_change x = Arc x.0 x.1 x.2
+  pub exactly : (x : AnArc) → Among x arcs ↔ (b.arc x.from x.label x.to ≡ true)
 
 -- The canonical changes of a book: its live stages in ascending order, and then its arcs in ascending order.
 pub record CanonicalChanges (b : Rules) (changes : List Change) : Type 0 where
-  pub arcs : List (ℕ × ℕ × ℕ)
+  pub arcs : List AnArc
   pub in_order : ArcsInOrder b arcs
-  pub are : changes ≡ stage_changes b ++ map arc_change arcs
+  pub are : changes ≡ stage_changes b ++ map Arc arcs
 
 -- The line of a change with the byte 10 that ends it.
 abbrev pub line_text : Change → List ℕ

@@ -1,12 +1,13 @@
 //! The changes that make a book of a fresh one, in canonical order.
 
-ghost use Rattle.std.specs.Prelude.{◌≡◌, [], ◌∷◌, ◌++◌, map, IfOk, OnOk};
+ghost use Rattle.std.specs.Prelude.{◌≡◌, ◌++◌, map, IfOk, OnOk};
+ghost use Rattle.std.specs.List.{filter_map};
+ghost use Rattle.rules.specs.declared.change.Change.TheVariants.{Arc as Added};
 ghost use Rattle.book.specs.Records.{rules_of};
-ghost use Rattle.book_text.specs.Canonical.{stage_change, stage_changes, arc_change, ArcsInOrder, CanonicalChanges};
-ghost use Rattle.book_text.specs.Keys.{arc_of, keys_in};
+ghost use Rattle.book_text.specs.Canonical.{stage_change, stage_changes, ArcsInOrder, CanonicalChanges};
 
-use book::{Book, Slot};
-use rules::Change;
+use book::Book;
+use rules::{Arc, Change};
 use std::alloc::{AllocError, Global};
 
 /// The live stages in ascending order, and then the arcs in ascending order of from stage, label and to
@@ -17,12 +18,13 @@ pub fn canonical_changes(heap: Global, book: &Book) -> Result<Vec<Change>, Alloc
 {
     let mut changes = Vec::new(heap);
     push_stages(&mut changes, book)?;
-    let keys = sorted_keys(heap, book)?;
-    push_arcs(&mut changes, keys.as_slice())?;
+    let arcs = sorted_arcs(heap, book)?;
+    push_arcs(&mut changes, arcs.as_slice())?;
     Ok(changes)
 }
 
 /// Adds the changes that make the live stages.
+#[tactic(auto, unfolding(rules::specs::Listing::each_below))]
 fn push_stages(changes: &mut Vec<Change>, book: &Book) -> Result<(), AllocError>
     ensures { OnOk result (changes.new.items ≡ changes.old.items ++ stage_changes (rules_of book.now)) }
 {
@@ -45,45 +47,28 @@ fn push_stage(changes: &mut Vec<Change>, book: &Book, stage: u16) -> Result<(), 
     Ok(())
 }
 
-/// The keys of the arcs in ascending order.
-fn sorted_keys(heap: Global, book: &Book) -> Result<Vec<u32>, AllocError>
-    ensures { IfOk result (λ v. ArcsInOrder (rules_of book.now) (map arc_of v.items)) }
+/// The arcs in ascending order.
+fn sorted_arcs(heap: Global, book: &Book) -> Result<Vec<Arc>, AllocError>
+    ensures { IfOk result (λ v. ArcsInOrder (rules_of book.now) v.items) }
 {
-    let mut keys = arc_keys(heap, book.slots())?;
-    keys.sort_unstable();
-    Ok(keys)
+    let mut arcs = arcs_of(heap, book.slots())?;
+    arcs.sort_unstable();
+    Ok(arcs)
 }
 
-/// The keys of the arcs in the order of their slots.
-fn arc_keys(heap: Global, slots: &[Slot]) -> Result<Vec<u32>, AllocError>
-    ensures { IfOk result (λ v. v.items ≡ keys_in slots.now) }
+/// The arcs in the order of their slots.
+fn arcs_of(heap: Global, slots: &[Option<Arc>]) -> Result<Vec<Arc>, AllocError>
+    ensures { IfOk result (λ v. v.items ≡ filter_map (λ s. s) slots.now) }
 {
-    let mut keys = Vec::new(heap);
-    for slot in slots {
-        push_key(&mut keys, slot)?;
-    }
-    Ok(keys)
+    slots.iter().filter_map(|slot| *slot).collect(heap)
 }
 
-/// Adds the key of the arc in the slot, if one stands there.
-fn push_key(keys: &mut Vec<u32>, slot: &Slot) -> Result<(), AllocError>
-    ensures { OnOk result (keys.new.items ≡ keys.old.items ++ keys_in (slot.now ∷ [])) }
+/// Adds the changes that add the arcs.
+fn push_arcs(changes: &mut Vec<Change>, arcs: &[Arc]) -> Result<(), AllocError>
+    ensures { OnOk result (changes.new.items ≡ changes.old.items ++ map Added arcs.now) }
 {
-    if slot.stands {
-        keys.push(slot.from as u32 * 4096 + slot.label as u32 * 256 + slot.to as u32)?;
-    }
-    Ok(())
-}
-
-/// Adds the changes that add the arcs of the keys.
-fn push_arcs(changes: &mut Vec<Change>, keys: &[u32]) -> Result<(), AllocError>
-    ensures { OnOk result (changes.new.items ≡ changes.old.items ++ map arc_change (map arc_of keys.now)) }
-{
-    for key in keys {
-        let from = (*key / 4096 % 256) as u16;
-        let label = (*key / 256 % 16) as u16;
-        let to = (*key % 256) as u16;
-        changes.push(Change::Arc { from, label, to })?;
+    for arc in arcs {
+        changes.push(Change::Arc(*arc))?;
     }
     Ok(())
 }

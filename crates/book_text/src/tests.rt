@@ -2,7 +2,7 @@
 
 use crate::write_book;
 use book::Book;
-use rules::Change;
+use rules::{Arc, Change};
 use std::process::Abort;
 use std::test::Fail;
 
@@ -11,7 +11,10 @@ fn stage(rt: &impl Abort, book: &mut Book, stage: u16, mark: u16) {
 }
 
 fn arc(rt: &impl Abort, book: &mut Book, from: u16, label: u16, to: u16) {
-    assert!(rt; book.change(256, Change::Arc { from, label, to }).is_ok());
+    assert!(rt;
+        book.change(256, Change::Arc(Arc { from, label, to }))
+            .is_ok()
+    );
 }
 
 /// Stages and arcs come out in order, whatever the order in which they were made.

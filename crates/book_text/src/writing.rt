@@ -1,8 +1,7 @@
 //! The canonical text.
 
-ghost use Rattle.std.specs.Prelude.{◌≡◌, List, ◌∷◌, ◌++◌, IfOk, string_bytes, OnOk};
-ghost use Rattle.rules.specs.declared.change.Change.{Change as AChange};
-ghost use Rattle.rules.specs.ChangeLines.{change_line};
+ghost use Rattle.std.specs.Prelude.{◌≡◌, ◌<◌, ◌++◌, length, IfOk, string_bytes, OnOk};
+ghost use Rattle.std.specs.List.{flat_map};
 ghost use Rattle.book.specs.Records.{rules_of};
 ghost use Rattle.book_text.specs.Canonical.{line_text, in_sheets, CanonicalText, CanonicalLaws};
 
@@ -12,6 +11,7 @@ use rules::Change;
 use std::alloc::{AllocError, Global};
 
 /// How many changes a sheet may have.
+// A number of the format, which `sheet` has too: for it alone the writer would depend on the reader.
 const MOST_CHANGES: usize = 64;
 
 /// The canonical text of a book: the number of events on the first line, and then the changes that make
@@ -29,60 +29,28 @@ fn written(heap: Global, book: &Book) -> Result<String, AllocError>
     let changes = canonical_changes(heap, book)?;
     let events = book.events();
     let mut text = format!(in heap; "{events}\n")?;
-    write_sheets(&mut text, heap, changes.as_slice())?;
+    write_sheets(&mut text, changes.as_slice())?;
     Ok(text)
 }
 
-/// Writes the changes in sheets.
-fn write_sheets(text: &mut String, heap: Global, changes: &[Change]) -> Result<(), AllocError>
+/// Writes the changes in sheets. There is one change at least: the mark of stage 0.
+fn write_sheets(text: &mut String, changes: &[Change]) -> Result<(), AllocError>
+    requires { 0 < length changes.now }
     ensures { OnOk result (string_bytes text.new ≡ string_bytes text.old ++ in_sheets 64 changes.now) }
 {
-    let mut room = MOST_CHANGES;
-    for change in changes {
-        room = write_change(text, heap, room, *change)?;
-    }
-    text.push_str("end\n")?;
-    Ok(())
-}
-
-/// Writes one more change, after the end of the sheet if that has no more room, and answers how much room
-/// the sheet then has.
-fn write_change(
-    text: &mut String,
-    heap: Global,
-    room: usize,
-    change: Change,
-) -> Result<usize, AllocError>
-    ensures { IfOk result (λ left. ((more : List AChange) → string_bytes text.new ++ in_sheets left more ≡ string_bytes text.old ++ in_sheets room (change ∷ more))) }
-{
-    if room == 0 {
+    for sheet in changes.chunks(MOST_CHANGES) {
+        write_lines(text, sheet)?;
         text.push_str("end\n")?;
-        write_line(text, heap, change)?;
-        return Ok(MOST_CHANGES - 1);
     }
-    write_line(text, heap, change)?;
-    Ok(room - 1)
-}
-
-/// Writes the line of a change, and the byte 10 that ends it.
-fn write_line(text: &mut String, heap: Global, change: Change) -> Result<(), AllocError>
-    ensures { OnOk result (string_bytes text.new ≡ string_bytes text.old ++ line_text change) }
-{
-    let line = line_of(heap, change)?;
-    text.push_str(line.as_str())?;
-    text.push_str("\n")?;
     Ok(())
 }
 
-/// The line of a change, without the byte 10 that ends it.
-fn line_of(heap: Global, change: Change) -> Result<String, AllocError>
-    ensures { IfOk result (λ s. string_bytes s ≡ change_line change) }
+/// Writes the lines of changes.
+fn write_lines(text: &mut String, changes: &[Change]) -> Result<(), AllocError>
+    ensures { OnOk result (string_bytes text.new ≡ string_bytes text.old ++ flat_map line_text changes.now) }
 {
-    match change {
-        Change::Stage { stage, mark } => format!(in heap; "stage {stage} {mark}"),
-        Change::Drop { stage } => format!(in heap; "drop {stage}"),
-        Change::Arc { from, label, to } => format!(in heap; "arc {from} {label} {to}"),
-        Change::Cut { from, label, to } => format!(in heap; "cut {from} {label} {to}"),
-        Change::Mark { stage, mark } => format!(in heap; "mark {stage} {mark}"),
+    for change in changes {
+        writeln!(text, "{change}")?;
     }
+    Ok(())
 }

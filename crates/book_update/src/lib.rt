@@ -28,12 +28,10 @@ fn make_changes(book: &mut Book, width: u16, changes: &[PlacedChange]) -> Result
     ensures { MatchResult result (λ _. applied (min width 256) (rules_of book.old) changes.now ≡ Ok (rules_of book.new)) (λ e. applied (min width 256) (rules_of book.old) changes.now ≡ Err e) }
 {
     for placed in changes {
-        if let Err(fault) = book.change(width, placed.change) {
-            return Err(Declined {
-                fault,
-                place: placed.place,
-            });
-        }
+        book.change(width, placed.change).map_err(|fault| Declined {
+            fault,
+            place: placed.place,
+        })?;
     }
     Ok(())
 }

@@ -2,6 +2,7 @@
 
 use crate::apply_sheet;
 use book::Book;
+use rules::Arc;
 use std::process::Abort;
 use std::test::Fail;
 
@@ -62,7 +63,13 @@ fn refused_sheet_changes_nothing(rt: HostRuntime) -> Result<(), Fail> {
         4,
         21,
     )?;
-    assert!(rt; book.has_arc(0, 1, 1));
+    assert!(rt;
+        book.has_arc(Arc {
+            from: 0,
+            label: 1,
+            to: 1
+        })
+    );
     assert_eq!(rt; book.mark_of(1), 0);
     accepts(&rt, &mut book, 256, b"cut 0 1 1\ndrop 1\n", 2)?;
     assert!(rt; !book.is_live(1));

@@ -1,6 +1,7 @@
 -- What the conditions on a change mean of a well-formed book, and that the book stays well formed.
 use Rattle.std.proofs.Common.{◌≡◌, ℕ, suc, ◌<◌, ◌≤◌, Bool, true, false, cond, not, ◌&&◌, ◌||◌, eqb, ltb, ◌⊎◌, Some, None, Option, sym, refl, ap, ◌∙◌, subst, inl, inr, arith}
 use Rattle.std.proofs.lemmas.Bool.{false≢true, both_ways, eqb-true, eqb-false, ne_eqb, ltb-true, ltb-false, lt-ltb, not-false, and_parts, and_from, or_cases, or_parts}
+use Rattle.rules.specs.declared.change.Arc.{Arc as AnArc}
 use Rattle.rules.specs.declared.change.Change.{Change}
 use Rattle.rules.specs.declared.change.Change.TheVariants.{Stage, Drop, Arc, Cut, Mark}
 use Rattle.rules.specs.declared.change.BookFault.{BookFault}
@@ -74,19 +75,19 @@ module _ (W : ℕ) (b : Rules) (g : Joins b) where
           (λ x. both_ways (has_any_arc b n) s.0 (joined_back b g n (m, e, k, a, inr x))),
         ),
       )
-  allow (Arc m e n) h =
-      let p = past (not (ltb m W) || (ltb b.events e || not (ltb n W))) OutOfRange _ h in
-      let q = past (not (b.live m) || not (b.live n)) NotLive _ p.1 in
-      let r = past (b.arc m e n) ArcStands _ q.1 in
+  allow (Arc x) h =
+      let p = past (not (ltb x.from W) || (ltb b.events x.label || not (ltb x.to W))) OutOfRange _ h in
+      let q = past (not (b.live x.from) || not (b.live x.to)) NotLive _ p.1 in
+      let r = past (b.arc x.from x.label x.to) ArcStands _ q.1 in
       let s = past (not (ltb (standing b) 1024)) BookFull None r.1 in
-      let f : Fine W b m e n = record { inside = p.0; alive = q.0 } in
-      (fine_ends W b m e n f, r.0, ltb-true (standing b) 1024 (not-false (ltb (standing b) 1024) s.0))
-  allow (Cut m e n) h =
-      let p = past (not (ltb m W) || (ltb b.events e || not (ltb n W))) OutOfRange _ h in
-      let q = past (not (b.live m) || not (b.live n)) NotLive _ p.1 in
-      let r = past (not (b.arc m e n)) ArcAbsent None q.1 in
-      let f : Fine W b m e n = record { inside = p.0; alive = q.0 } in
-      (fine_ends W b m e n f, not-false (b.arc m e n) r.0)
+      let f : Fine W b x.from x.label x.to = record { inside = p.0; alive = q.0 } in
+      (fine_ends W b x.from x.label x.to f, r.0, ltb-true (standing b) 1024 (not-false (ltb (standing b) 1024) s.0))
+  allow (Cut x) h =
+      let p = past (not (ltb x.from W) || (ltb b.events x.label || not (ltb x.to W))) OutOfRange _ h in
+      let q = past (not (b.live x.from) || not (b.live x.to)) NotLive _ p.1 in
+      let r = past (not (b.arc x.from x.label x.to)) ArcAbsent None q.1 in
+      let f : Fine W b x.from x.label x.to = record { inside = p.0; alive = q.0 } in
+      (fine_ends W b x.from x.label x.to f, not-false (b.arc x.from x.label x.to) r.0)
   allow (Mark n m) h =
       let p = past (not (ltb n W) || ltb 7 m) OutOfRange _ h in
       let q = or_parts (not (ltb n W)) (ltb 7 m) p.0 in
@@ -103,8 +104,9 @@ module _ (W : ℕ) (b : Rules) (g : Joins b) where
       none : Joined b g n → ⊥
       none (m, e, k, a, inl x) = (h.3 m e k a).0 x
       none (m, e, k, a, inr x) = (h.3 m e k a).1 x
-  clear (Arc m e n) h = arc_first W b m e n (ends_fine W b m e n h.0) false false h.1 (ap not (lt-ltb (standing b) 1024 h.2))
-  clear (Cut m e n) h = cut_first W b m e n (ends_fine W b m e n h.0) true h.1
+  clear (Arc x) h =
+      arc_first W b x (ends_fine W b x.from x.label x.to h.0) false false h.1 (ap not (lt-ltb (standing b) 1024 h.2))
+  clear (Cut x) h = cut_first W b x (ends_fine W b x.from x.label x.to h.0) true h.1
   clear (Mark n m) h = mark_free W b n m h.0 h.1 h.2
 
 -- the value at the place that was written, and at any other
@@ -207,33 +209,33 @@ module _ (W : ℕ) (b : Rules) (w : W ≤ 256) (g : WellFormed W b) where
   abbrev PutArc : ℕ → ℕ → ℕ → Bool → ℕ → ℕ → ℕ → Type 0
   PutArc m e n v x f y = ((x ≡ m) × (f ≡ e) × (y ≡ n) × (put_arc b.arc m e n v x f y ≡ v)) ⊎ (put_arc b.arc m e n v x f y ≡ b.arc x f y)
 
-  formed_arc : (m e n : ℕ) → Allowed W b (Arc m e n) → WellFormed W (changed b (Arc m e n))
-  formed_arc m e n h = formed_arcs (put_arc b.arc m e n true) (λ x f y a. fits x f y a (put_arc_cases b.arc m e n true x f y))
-      (let s = arcs_added b (changed b (Arc m e n)) (formed_joins W b w g)
-      (record { low = (formed_joins W b w g).low; ends = λ x f y a. fits x f y a (put_arc_cases b.arc m e n true x f y) }) (m, e, n)
-      (λ x f y a. new x f y a (put_arc_cases b.arc m e n true x f y)) in
+  formed_arc : (r : AnArc) → Allowed W b (Arc r) → WellFormed W (changed b (Arc r))
+  formed_arc r h = formed_arcs (put_arc b.arc r.from r.label r.to true) (λ x f y a. fits x f y a (put_arc_cases b.arc r.from r.label r.to true x f y))
+      (let s = arcs_added b (changed b (Arc r)) (formed_joins W b w g)
+      (record { low = (formed_joins W b w g).low; ends = λ x f y a. fits x f y a (put_arc_cases b.arc r.from r.label r.to true x f y) }) (r.from, r.label, r.to)
+      (λ x f y a. new x f y a (put_arc_cases b.arc r.from r.label r.to true x f y)) in
       let t = h.2 in omega arith)
     where
-      fits : (x f y : ℕ) → put_arc b.arc m e n true x f y ≡ true → PutArc m e n true x f y →
+      fits : (x f y : ℕ) → put_arc b.arc r.from r.label r.to true x f y ≡ true → PutArc r.from r.label r.to true x f y →
           (b.live x ≡ true) × (b.live y ≡ true) × (f ≤ b.events)
       fits x f y a (inl z) = rw (z.0, z.1, z.2) (h.0.from_live, h.0.to_live, h.0.label)
       fits x f y a (inr z) = g.arc_fits x f y (sym z ∙ a)
 
-      new : (x f y : ℕ) → put_arc b.arc m e n true x f y ≡ true → PutArc m e n true x f y →
-          (◌≡◌ {A = ℕ × ℕ × ℕ} (x, f, y) (m, e, n)) ⊎ (b.arc x f y ≡ true)
+      new : (x f y : ℕ) → put_arc b.arc r.from r.label r.to true x f y ≡ true → PutArc r.from r.label r.to true x f y →
+          (◌≡◌ {A = ℕ × ℕ × ℕ} (x, f, y) (r.from, r.label, r.to)) ⊎ (b.arc x f y ≡ true)
       new x f y a (inl z) = inl (λ i. (z.0 i, z.1 i, z.2 i))
       new x f y a (inr z) = inr (sym z ∙ a)
 
-  formed_cut : (m e n : ℕ) → WellFormed W (changed b (Cut m e n))
-  formed_cut m e n = formed_arcs (put_arc b.arc m e n false) (λ x f y a. g.arc_fits x f y (old x f y a (put_arc_cases b.arc m e n false x f y)))
-      (let s = arcs_kept b (changed b (Cut m e n)) (formed_joins W b w g)
+  formed_cut : (r : AnArc) → WellFormed W (changed b (Cut r))
+  formed_cut r = formed_arcs (put_arc b.arc r.from r.label r.to false) (λ x f y a. g.arc_fits x f y (old x f y a (put_arc_cases b.arc r.from r.label r.to false x f y)))
+      (let s = arcs_kept b (changed b (Cut r)) (formed_joins W b w g)
       (record {
         low = (formed_joins W b w g).low;
-        ends = λ x f y a. g.arc_fits x f y (old x f y a (put_arc_cases b.arc m e n false x f y));
-      }) (λ x f y a. old x f y a (put_arc_cases b.arc m e n false x f y)) in
+        ends = λ x f y a. g.arc_fits x f y (old x f y a (put_arc_cases b.arc r.from r.label r.to false x f y));
+      }) (λ x f y a. old x f y a (put_arc_cases b.arc r.from r.label r.to false x f y)) in
       let t = g.few_arcs in omega arith)
     where
-      old : (x f y : ℕ) → put_arc b.arc m e n false x f y ≡ true → PutArc m e n false x f y → b.arc x f y ≡ true
+      old : (x f y : ℕ) → put_arc b.arc r.from r.label r.to false x f y ≡ true → PutArc r.from r.label r.to false x f y → b.arc x f y ≡ true
       old x f y a (inl z) = absurd (false≢true (sym z.3 ∙ a))
       old x f y a (inr z) = sym z ∙ a
 
@@ -255,8 +257,8 @@ module _ (W : ℕ) (b : Rules) (w : W ≤ 256) (g : WellFormed W b) where
   pub formed_change : (ch : Change) → Allowed W b ch → WellFormed W (changed b ch)
   formed_change (Stage n m) h = formed_stage n m h
   formed_change (Drop n) h = formed_drop n h
-  formed_change (Arc m e n) h = formed_arc m e n h
-  formed_change (Cut m e n) h = formed_cut m e n
+  formed_change (Arc r) h = formed_arc r h
+  formed_change (Cut r) h = formed_cut r
   formed_change (Mark n m) h = formed_mark n m h
 
   pub conditions : Conditions W b

@@ -1,6 +1,7 @@
 -- Which condition on a change is the first to hold: none where nothing stands against it, and past the ends of an arc.
 use Rattle.std.proofs.Common.{◌≡◌, ℕ, ◌<◌, ◌≤◌, Bool, true, false, cond, not, ◌||◌, ltb, Some, None, Option, ap, ◌∙◌}
 use Rattle.std.proofs.lemmas.Bool.{ltb-true, ltb-false, lt-ltb, le-ltb, not-false, or_parts, or_from}
+use Rattle.rules.specs.declared.change.Arc.{Arc as AnArc}
 use Rattle.rules.specs.declared.change.Change.TheVariants.{Stage, Arc, Cut, Mark}
 use Rattle.rules.specs.declared.change.BookFault.{BookFault}
 use Rattle.rules.specs.declared.change.BookFault.TheVariants.{OutOfRange, LiveAlready, NotLive, ArcStands, ArcAbsent, BookFull}
@@ -62,18 +63,18 @@ past_ends x y o = cond x (Some OutOfRange) (cond y (Some NotLive) o)
 abbrev pub after_ends : Bool → Bool → Option BookFault
 after_ends v w = cond v (Some ArcStands) (cond w (Some BookFull) None)
 
-pub arc_first : (W : ℕ) (b : Rules) (m e n : ℕ) → Fine W b m e n → (v w : Bool) → b.arc m e n ≡ v → not (ltb (standing b) 1024) ≡ w →
-    first_fault W b (Arc m e n) ≡ after_ends v w
-arc_first W b m e n f v w p q =
-    ap (λ (x : Bool). past_ends x (not (b.live m) || not (b.live n)) (after_ends (b.arc m e n) (not (ltb (standing b) 1024)))) f.inside
-    ∙ ap (λ (y : Bool). past_ends false y (after_ends (b.arc m e n) (not (ltb (standing b) 1024)))) f.alive
+pub arc_first : (W : ℕ) (b : Rules) (a : AnArc) → Fine W b a.from a.label a.to → (v w : Bool) → b.arc a.from a.label a.to ≡ v →
+    not (ltb (standing b) 1024) ≡ w → first_fault W b (Arc a) ≡ after_ends v w
+arc_first W b a f v w p q =
+    ap (λ (x : Bool). past_ends x (not (b.live a.from) || not (b.live a.to)) (after_ends (b.arc a.from a.label a.to) (not (ltb (standing b) 1024)))) f.inside
+    ∙ ap (λ (y : Bool). past_ends false y (after_ends (b.arc a.from a.label a.to) (not (ltb (standing b) 1024)))) f.alive
     ∙ ap (λ (x : Bool). after_ends x (not (ltb (standing b) 1024))) p
     ∙ ap (λ (x : Bool). after_ends v x) q
 
 -- of an arc to remove: v, whether it stands
-pub cut_first : (W : ℕ) (b : Rules) (m e n : ℕ) → Fine W b m e n → (v : Bool) → b.arc m e n ≡ v →
-    first_fault W b (Cut m e n) ≡ cond (not v) (Some ArcAbsent) None
-cut_first W b m e n f v p =
-    ap (λ (x : Bool). past_ends x (not (b.live m) || not (b.live n)) (cond (not (b.arc m e n)) (Some ArcAbsent) None)) f.inside
-    ∙ ap (λ (y : Bool). past_ends false y (cond (not (b.arc m e n)) (Some ArcAbsent) None)) f.alive
+pub cut_first : (W : ℕ) (b : Rules) (a : AnArc) → Fine W b a.from a.label a.to → (v : Bool) → b.arc a.from a.label a.to ≡ v →
+    first_fault W b (Cut a) ≡ cond (not v) (Some ArcAbsent) None
+cut_first W b a f v p =
+    ap (λ (x : Bool). past_ends x (not (b.live a.from) || not (b.live a.to)) (cond (not (b.arc a.from a.label a.to)) (Some ArcAbsent) None)) f.inside
+    ∙ ap (λ (y : Bool). past_ends false y (cond (not (b.arc a.from a.label a.to)) (Some ArcAbsent) None)) f.alive
     ∙ ap (λ (x : Bool). cond {A = Option BookFault} (not x) (Some ArcAbsent) None) p

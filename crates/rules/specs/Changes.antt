@@ -30,72 +30,72 @@ put_arc f m e n v x y z = cond (x == m && (y == e && z == n)) v (f x y z)
 abbrev pub changed : Rules → Change → Rules
 changed b (Stage n m) = record { events = b.events; live = put b.live n true; mark = put b.mark n m; arc = b.arc }
 changed b (Drop n) = record { events = b.events; live = put b.live n false; mark = b.mark; arc = b.arc }
-changed b (Arc m e n) = record { events = b.events; live = b.live; mark = b.mark; arc = put_arc b.arc m e n true }
-changed b (Cut m e n) = record { events = b.events; live = b.live; mark = b.mark; arc = put_arc b.arc m e n false }
+changed b (Arc a) = record { events = b.events; live = b.live; mark = b.mark; arc = put_arc b.arc a.from a.label a.to true }
+changed b (Cut a) = record { events = b.events; live = b.live; mark = b.mark; arc = put_arc b.arc a.from a.label a.to false }
 changed b (Mark n m) = record { events = b.events; live = b.live; mark = put b.mark n m; arc = b.arc }
 
 -- 21: a stage not below W, a label above the number of events or a mark above 7.
 abbrev pub out_of_range : ℕ → Rules → Change → Bool
 out_of_range W b (Stage n m) = not (nat_lt n W) || nat_lt 7 m
 out_of_range W b (Drop n) = not (nat_lt n W)
-out_of_range W b (Arc m e n) = not (nat_lt m W) || (nat_lt b.events e || not (nat_lt n W))
-out_of_range W b (Cut m e n) = not (nat_lt m W) || (nat_lt b.events e || not (nat_lt n W))
+out_of_range W b (Arc a) = not (nat_lt a.from W) || (nat_lt b.events a.label || not (nat_lt a.to W))
+out_of_range W b (Cut a) = not (nat_lt a.from W) || (nat_lt b.events a.label || not (nat_lt a.to W))
 out_of_range W b (Mark n m) = not (nat_lt n W) || nat_lt 7 m
 
 -- 23: `stage` on a live stage.
 abbrev pub live_already : Rules → Change → Bool
 live_already b (Stage n m) = b.live n
 live_already b (Drop n) = false
-live_already b (Arc m e n) = false
-live_already b (Cut m e n) = false
+live_already b (Arc a) = false
+live_already b (Cut a) = false
 live_already b (Mark n m) = false
 
 -- 22: another change's stage is not live.
 abbrev pub not_live : Rules → Change → Bool
 not_live b (Stage n m) = false
 not_live b (Drop n) = not (b.live n)
-not_live b (Arc m e n) = not (b.live m) || not (b.live n)
-not_live b (Cut m e n) = not (b.live m) || not (b.live n)
+not_live b (Arc a) = not (b.live a.from) || not (b.live a.to)
+not_live b (Cut a) = not (b.live a.from) || not (b.live a.to)
 not_live b (Mark n m) = not (b.live n)
 
 -- 24: `drop` of stage 0.
 abbrev pub drops_start : Change → Bool
 drops_start (Stage n m) = false
 drops_start (Drop n) = n == 0
-drops_start (Arc m e n) = false
-drops_start (Cut m e n) = false
+drops_start (Arc a) = false
+drops_start (Cut a) = false
 drops_start (Mark n m) = false
 
 -- 25: the dropped stage has arcs.
 abbrev pub drops_joined : Rules → Change → Bool
 drops_joined b (Stage n m) = false
 drops_joined b (Drop n) = has_any_arc b n
-drops_joined b (Arc m e n) = false
-drops_joined b (Cut m e n) = false
+drops_joined b (Arc a) = false
+drops_joined b (Cut a) = false
 drops_joined b (Mark n m) = false
 
 -- 26: the added arc stands.
 abbrev pub arc_stands : Rules → Change → Bool
 arc_stands b (Stage n m) = false
 arc_stands b (Drop n) = false
-arc_stands b (Arc m e n) = b.arc m e n
-arc_stands b (Cut m e n) = false
+arc_stands b (Arc a) = b.arc a.from a.label a.to
+arc_stands b (Cut a) = false
 arc_stands b (Mark n m) = false
 
 -- 27: the cut arc is absent.
 abbrev pub arc_absent : Rules → Change → Bool
 arc_absent b (Stage n m) = false
 arc_absent b (Drop n) = false
-arc_absent b (Arc m e n) = false
-arc_absent b (Cut m e n) = not (b.arc m e n)
+arc_absent b (Arc a) = false
+arc_absent b (Cut a) = not (b.arc a.from a.label a.to)
 arc_absent b (Mark n m) = false
 
 -- 28: an arc added where 1,024 stand.
 abbrev pub no_room : Rules → Change → Bool
 no_room b (Stage n m) = false
 no_room b (Drop n) = false
-no_room b (Arc m e n) = not (nat_lt (standing b) 1024)
-no_room b (Cut m e n) = false
+no_room b (Arc a) = not (nat_lt (standing b) 1024)
+no_room b (Cut a) = false
 no_room b (Mark n m) = false
 
 -- The first condition that holds of a change to a book of width W, from the top; none if the change is made.
@@ -127,8 +127,8 @@ pub record Ends (W : ℕ) (b : Rules) (m e n : ℕ) : Type 0 where
 abbrev pub Allowed : ℕ → Rules → Change → Type 0
 Allowed W b (Stage n m) = (n < W) × (m ≤ 7) × (b.live n ≡ false)
 Allowed W b (Drop n) = (n < W) × (b.live n ≡ true) × (n ≢ 0) × ((m e k : ℕ) → b.arc m e k ≡ true → (m ≢ n) × (k ≢ n))
-Allowed W b (Arc m e n) = Ends W b m e n × (b.arc m e n ≡ false) × (standing b < 1024)
-Allowed W b (Cut m e n) = Ends W b m e n × (b.arc m e n ≡ true)
+Allowed W b (Arc a) = Ends W b a.from a.label a.to × (b.arc a.from a.label a.to ≡ false) × (standing b < 1024)
+Allowed W b (Cut a) = Ends W b a.from a.label a.to × (b.arc a.from a.label a.to ≡ true)
 Allowed W b (Mark n m) = (n < W) × (m ≤ 7) × (b.live n ≡ true)
 
 -- What the conditions mean of a well-formed book.

@@ -1,10 +1,32 @@
 //! What a sheet may ask of a rule book, and why the book may decline it.
 
-ghost use Rattle.std.specs.Prelude.{◌≡◌};
+ghost use Rattle.std.specs.Prelude.{◌≡◌, Some};
 ghost use Rattle.rules.specs.Changes.{fault_number};
+ghost use Rattle.rules.specs.ChangeLines.{arc_text, change_line};
+
+use std::fmt;
+
+/// An arc of a rule book: it leads from a stage to a stage by the event that is its label or, where the
+/// label is 0, silently. Arcs are in the order of from stage, label and to stage.
+#[derive(Clone, Copy, Debug, PartialEq, Eq, PartialOrd, Ord)]
+pub struct Arc {
+    pub from: u16,
+    pub label: u16,
+    pub to: u16,
+}
+
+impl fmt::Display for Arc {
+    ghost output = { λ a. Some (arc_text a) };
+
+    fn fmt<W: fmt::Write>(&self, f: &mut fmt::Formatter<W>) -> fmt::Result {
+        let Arc { from, label, to } = self;
+        write!(f, "{from} {label} {to}")
+    }
+}
 
 /// One change of a rule book. Stages, labels and marks are as the sheet has them: whether they are in
 /// range is for the book to say.
+// A stage and its mark are two fields: a struct for them would serve two functions and say no more.
 #[derive(Clone, Copy, Debug, PartialEq, Eq)]
 pub enum Change {
     /// Makes a stage live, with a mark.
@@ -12,32 +34,48 @@ pub enum Change {
     /// Makes a stage not live.
     Drop { stage: u16 },
     /// Adds an arc.
-    Arc { from: u16, label: u16, to: u16 },
+    Arc(Arc),
     /// Removes an arc.
-    Cut { from: u16, label: u16, to: u16 },
+    Cut(Arc),
     /// Replaces the mark of a live stage.
     Mark { stage: u16, mark: u16 },
 }
 
-/// Why a rule book declines a change, in the order in which the conditions are looked for.
+/// The change as the line of a sheet, without the byte that ends it.
+impl fmt::Display for Change {
+    ghost output = { λ change. Some (change_line change) };
+
+    fn fmt<W: fmt::Write>(&self, f: &mut fmt::Formatter<W>) -> fmt::Result {
+        match self {
+            Change::Stage { stage, mark } => write!(f, "stage {stage} {mark}"),
+            Change::Drop { stage } => write!(f, "drop {stage}"),
+            Change::Arc(arc) => write!(f, "arc {arc}"),
+            Change::Cut(arc) => write!(f, "cut {arc}"),
+            Change::Mark { stage, mark } => write!(f, "mark {stage} {mark}"),
+        }
+    }
+}
+
+/// Why a rule book declines a change, in the order in which the conditions are looked for. Each has the
+/// number by which it is told.
 #[derive(Clone, Copy, Debug, PartialEq, Eq)]
 pub enum BookFault {
     /// A stage not below the width, a label that is no event nor 0, or a mark above 7.
-    OutOfRange,
+    OutOfRange = 21,
     /// `stage` on a live stage.
-    LiveAlready,
+    LiveAlready = 23,
     /// Another change's stage is not live.
-    NotLive,
+    NotLive = 22,
     /// `drop` of stage 0.
-    DropsStart,
+    DropsStart = 24,
     /// The dropped stage has arcs.
-    HasArcs,
+    HasArcs = 25,
     /// The added arc stands already.
-    ArcStands,
+    ArcStands = 26,
     /// The arc to remove does not stand.
-    ArcAbsent,
+    ArcAbsent = 27,
     /// An arc added where 1,024 stand.
-    BookFull,
+    BookFull = 28,
 }
 
 impl BookFault {
@@ -45,15 +83,6 @@ impl BookFault {
     pub fn number(&self) -> u8
         ensures { result ≡ fault_number self.now }
     {
-        match self {
-            BookFault::OutOfRange => 21,
-            BookFault::LiveAlready => 23,
-            BookFault::NotLive => 22,
-            BookFault::DropsStart => 24,
-            BookFault::HasArcs => 25,
-            BookFault::ArcStands => 26,
-            BookFault::ArcAbsent => 27,
-            BookFault::BookFull => 28,
-        }
+        *self as u8
     }
 }

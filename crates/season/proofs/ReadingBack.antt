@@ -36,8 +36,8 @@ lacks_three m e n s =
 pub no_end : (c : Change) → Small c → lacks 10 (change_line c) ≡ true
 no_end (Stage n m) s = lacks_two 10 (decimal n) (decimal m) refl (numeral n s.0).no_end (numeral m s.1).no_end
 no_end (Drop n) s = (numeral n s).no_end
-no_end (Arc m e n) s = lacks_three m e n s
-no_end (Cut m e n) s = lacks_three m e n s
+no_end (Arc a) s = lacks_three a.from a.label a.to s
+no_end (Cut a) s = lacks_three a.from a.label a.to s
 no_end (Mark n m) s = lacks_two 10 (decimal n) (decimal m) refl (numeral n s.0).no_end (numeral m s.1).no_end
 
 -- a line has at most 16 bytes
@@ -50,8 +50,8 @@ short_three m e n s = omega (arith, length-append (decimal m) (32 ∷ (decimal e
 short_change : (c : Change) → Small c → length (change_line c) ≤ 15
 short_change (Stage n m) s = omega (arith, short_two n m s)
 short_change (Drop n) s = omega (arith, (numeral n s).short)
-short_change (Arc m e n) s = omega (arith, short_three m e n s)
-short_change (Cut m e n) s = omega (arith, short_three m e n s)
+short_change (Arc a) s = omega (arith, short_three a.from a.label a.to s)
+short_change (Cut a) s = omega (arith, short_three a.from a.label a.to s)
 short_change (Mark n m) s = omega (arith, short_two n m s)
 
 short_line : (c : Change) → Small c → length (line_text c) ≤ 16

@@ -3,6 +3,7 @@ use Rattle.std.proofs.Common.{◌≡◌, ℕ, zero, suc, ◌+◌, ◌<◌, ◌�
 use Rattle.std.specs.Str.{bytes_eq}
 use Rattle.std.proofs.lemmas.Bool.{le-leb, and_from}
 use Rattle.text.specs.Split.{Told, parts}
+use Rattle.rules.specs.declared.change.Arc.{Arc as AnArc}
 use Rattle.rules.specs.declared.change.Change.{Change}
 use Rattle.rules.specs.declared.change.Change.TheVariants.{Stage, Drop, Arc, Cut, Mark}
 use Rattle.rules.specs.declared.change.BookFault.{BookFault}
@@ -16,7 +17,7 @@ use Rattle.sheet_faults.specs.declared.Declined.{Declined}
 use Rattle.sheet_faults.specs.declared.SheetFault.{SheetFault}
 use Rattle.text.specs.Outcomes.{over, and_then}
 use Rattle.book_update.specs.Updates.{unless, applied, in_book, sheet_applied}
-use Rattle.book_text.specs.Canonical.{stage_change, stage_changes, arc_change, line_text, in_sheets, text_of, CanonicalChanges}
+use Rattle.book_text.specs.Canonical.{stage_change, stage_changes, line_text, in_sheets, text_of, CanonicalChanges}
 use Rattle.book_text.proofs.Rebuilding.{leads_append, rebuilt}
 use Rattle.season_text.specs.Seasons.{line_texts, ranged, events_of, sheets_from, others}
 use Rattle.season.specs.RoundTrip.{Accepted, ReadsBack}
@@ -68,8 +69,8 @@ small_append (x ∷ xs) ys p q = (p.0, small_append xs ys p.1 q)
 not_end : (c : Change) → bytes_eq (change_line c) (codes "end") ≡ false
 not_end (Stage n m) = refl
 not_end (Drop n) = refl
-not_end (Arc m e n) = refl
-not_end (Cut m e n) = refl
+not_end (Arc a) = refl
+not_end (Cut a) = refl
 not_end (Mark n m) = refl
 
 lines_push : (done : List Change) (c : Change) → lines_text (done ++ c ∷ []) ≡ lines_text done ++ (change_line c ++ (10 ∷ []))
@@ -112,16 +113,16 @@ module _ (W : ℕ) (b : Rules) (wide : W ≤ 256) (g : WellFormed W b) where
       go false true h = ((omega arith, omega (arith, g.small_mark n h)), tt)
       go false false h = tt
 
-  small_arcs : (arcs : List (ℕ × ℕ × ℕ)) → ((x : ℕ × ℕ × ℕ) → Among x arcs → b.arc x.0 x.1 x.2 ≡ true) → AllSmall (map arc_change arcs)
+  small_arcs : (arcs : List AnArc) → ((x : AnArc) → Among x arcs → b.arc x.from x.label x.to ≡ true) → AllSmall (map Arc arcs)
   small_arcs [] h = tt
   small_arcs (x ∷ xs) h =
-      let e = g.arc_fits x.0 x.1 x.2 (h x (inl refl)) in
-      ((omega (arith, wide, g.few_stages x.0 e.0), omega (arith, e.2, g.few_events), omega (arith, wide, g.few_stages x.2 e.1)), small_arcs xs (λ y k. h y (inr k)))
+      let e = g.arc_fits x.from x.label x.to (h x (inl refl)) in
+      ((omega (arith, wide, g.few_stages x.from e.0), omega (arith, e.2, g.few_events), omega (arith, wide, g.few_stages x.to e.1)), small_arcs xs (λ y k. h y (inr k)))
 
   small_canonical : (changes : List Change) → CanonicalChanges b changes → AllSmall changes
   small_canonical changes q =
       subst AllSmall (sym q.are)
-      (small_append (stage_changes b) (map arc_change q.arcs) (small_each 256 (stage_change b) small_stage) (small_arcs q.arcs (λ x. (q.in_order.exactly x).0)))
+      (small_append (stage_changes b) (map Arc q.arcs) (small_each 256 (stage_change b) small_stage) (small_arcs q.arcs (λ x. (q.in_order.exactly x).0)))
 
 -- the lines of a text of events and changes
 lines_of : (E : ℕ) (changes : List Change) → E < 1000 → AllSmall changes → line_texts (text_of E changes) ≡ decimal E ∷ sheet_lines 64 changes

@@ -9,6 +9,7 @@ use Rattle.text.specs.Numbers.{number_of}
 use Rattle.text.proofs.Back.{whole}
 use Rattle.text.proofs.Numerals.{numeral, number_words}
 use Rattle.text.proofs.Parting.{two_words, three_words, four_words}
+use Rattle.rules.specs.declared.change.Arc.{Arc as AnArc}
 use Rattle.rules.specs.declared.change.Change.{Change}
 use Rattle.rules.specs.declared.change.Change.TheVariants.{Stage, Drop, Arc, Cut, Mark}
 use Rattle.rules.specs.ChangeLines.{change_line, Small}
@@ -22,7 +23,7 @@ use Rattle.sheet.specs.declared.line.Keyword.{Keyword}
 use Rattle.sheet.specs.declared.line.Keyword.TheVariants as keyword
 use Rattle.text.specs.Outcomes.{over, and_then}
 use Rattle.text.specs.Counted.{one_of, two_of, three_of}
-use Rattle.sheet.specs.Lines.{ToldLine, stage, dropped, arc, cut, mark, keyword_of, form_of, from_words, line_of, number_or, number_of_word, two_numbers_of, three_numbers_of, numbered, change_of}
+use Rattle.sheet.specs.Lines.{ToldLine, stage, dropped, arc, cut, mark, keyword_of, form_of, from_words, line_of, number_or, number_of_word, two_numbers_of, arc_of, numbered, change_of}
 use Rattle.sheet.specs.Sheets.{placed_of}
 use Rattle.sheet.specs.Laws.{LineOf}
 
@@ -39,8 +40,8 @@ with_place p r = over (λ ch. record { change = ch; place = p }) (in_line r)
 abbrev pair : Result ℕ WordFault → Result ℕ WordFault → Result (ℕ × ℕ) WordFault
 pair x y = and_then x (λ i. over (λ j. (i, j)) y)
 
-abbrev triple : Result ℕ WordFault → Result ℕ WordFault → Result ℕ WordFault → Result (ℕ × ℕ × ℕ) WordFault
-triple x y z = and_then x (λ i. over (λ (q : ℕ × ℕ). (i, q.0, q.1)) (pair y z))
+abbrev triple : Result ℕ WordFault → Result ℕ WordFault → Result ℕ WordFault → Result AnArc WordFault
+triple x y z = and_then x (λ m. over (λ q. record { from = m; label = q.0; to = q.1 }) (pair y z))
 
 one_told : (p u : Place) (x : Option ℕ) (n : ℕ) (f : ℕ → Change) → x ≡ Some n → with_place p (over f (number_or u x)) ≡ placed p (f n)
 one_told p u x n f h = λ i. with_place p (over f (number_or u (h i)))
@@ -49,10 +50,9 @@ two_told : (p u v : Place) (x y : Option ℕ) (n m : ℕ) (f : ℕ → ℕ → C
     with_place p (over (λ (z : ℕ × ℕ). f z.0 z.1) (pair (number_or u x) (number_or v y))) ≡ placed p (f n m)
 two_told p u v x y n m f h k = λ i. with_place p (over (λ (z : ℕ × ℕ). f z.0 z.1) (pair (number_or u (h i)) (number_or v (k i))))
 
-three_told : (p u v w : Place) (x y z : Option ℕ) (m e n : ℕ) (f : ℕ → ℕ → ℕ → Change) → x ≡ Some m → y ≡ Some e → z ≡ Some n →
-    with_place p (over (λ (t : ℕ × ℕ × ℕ). f t.0 t.1 t.2) (triple (number_or u x) (number_or v y) (number_or w z))) ≡ placed p (f m e n)
-three_told p u v w x y z m e n f h k l =
-    λ i. with_place p (over (λ (t : ℕ × ℕ × ℕ). f t.0 t.1 t.2) (triple (number_or u (h i)) (number_or v (k i)) (number_or w (l i))))
+three_told : (p u v w : Place) (x y z : Option ℕ) (a : AnArc) (f : AnArc → Change) → x ≡ Some a.from → y ≡ Some a.label → z ≡ Some a.to →
+    with_place p (over f (triple (number_or u x) (number_or v y) (number_or w z))) ≡ placed p (f a)
+three_told p u v w x y z a f h k l = λ i. with_place p (over f (triple (number_or u (h i)) (number_or v (k i)) (number_or w (l i))))
 
 reads : (ch : Change) → Small ch → (p : Place) → placed_of (record { text = change_line ch; place = p }) ≡ placed p ch
 reads (Stage n m) s p =
@@ -62,14 +62,14 @@ reads (Stage n m) s p =
 reads (Drop n) s p =
     let a = numeral n s in
     ap (finish p) (two_words p.line p.offset (codes "drop") (decimal n) refl a.no_space) ∙ one_told _ _ _ n Drop a.reads
-reads (Arc m e n) s p =
-    let a = numeral m s.0 in let b = numeral e s.1 in let d = numeral n s.2 in
-    ap (finish p) (four_words p.line p.offset (codes "arc") (decimal m) (decimal e) (decimal n) refl a.no_space b.no_space d.no_space)
-    ∙ three_told _ _ _ _ _ _ _ m e n Arc a.reads b.reads d.reads
-reads (Cut m e n) s p =
-    let a = numeral m s.0 in let b = numeral e s.1 in let d = numeral n s.2 in
-    ap (finish p) (four_words p.line p.offset (codes "cut") (decimal m) (decimal e) (decimal n) refl a.no_space b.no_space d.no_space)
-    ∙ three_told _ _ _ _ _ _ _ m e n Cut a.reads b.reads d.reads
+reads (Arc x) s p =
+    let a = numeral x.from s.0 in let b = numeral x.label s.1 in let d = numeral x.to s.2 in
+    ap (finish p) (four_words p.line p.offset (codes "arc") (decimal x.from) (decimal x.label) (decimal x.to) refl a.no_space b.no_space d.no_space)
+    ∙ three_told _ _ _ _ _ _ _ x Arc a.reads b.reads d.reads
+reads (Cut x) s p =
+    let a = numeral x.from s.0 in let b = numeral x.label s.1 in let d = numeral x.to s.2 in
+    ap (finish p) (four_words p.line p.offset (codes "cut") (decimal x.from) (decimal x.label) (decimal x.to) refl a.no_space b.no_space d.no_space)
+    ∙ three_told _ _ _ _ _ _ _ x Cut a.reads b.reads d.reads
 reads (Mark n m) s p =
     let a = numeral n s.0 in let b = numeral m s.1 in
     ap (finish p) (three_words p.line p.offset (codes "mark") (decimal n) (decimal m) refl a.no_space b.no_space)
@@ -135,12 +135,12 @@ two_ok v w x h =
     let b = over_ok (number_of_word w) (λ j. (a.0, j)) x a.2 in
     subst (λ (y : ℕ × ℕ). Written v y.0 × Written w y.1) b.2 (number_ok v a.0 a.1, number_ok w b.0 b.1)
 
-three_ok : (u v w : Told) (x : ℕ × ℕ × ℕ) → three_numbers_of u v w ≡ Ok x → Written u x.0 × Written v x.1 × Written w x.2
+three_ok : (u v w : Told) (x : AnArc) → arc_of u v w ≡ Ok x → Written u x.from × Written v x.label × Written w x.to
 three_ok u v w x h =
-    let a = and_then_ok (number_of_word u) (λ i. over (λ (q : ℕ × ℕ). (i, q.0, q.1)) (two_numbers_of v w)) x h in
-    let b = over_ok (two_numbers_of v w) (λ (q : ℕ × ℕ). (a.0, q.0, q.1)) x a.2 in
+    let a = and_then_ok (number_of_word u) (λ m. over (λ (q : ℕ × ℕ). record { from = m; label = q.0; to = q.1 }) (two_numbers_of v w)) x h in
+    let b = over_ok (two_numbers_of v w) (λ (q : ℕ × ℕ). record { from = a.0; label = q.0; to = q.1 }) x a.2 in
     let d = two_ok v w b.0 b.1 in
-    subst (λ (y : ℕ × ℕ × ℕ). Written u y.0 × Written v y.1 × Written w y.2) b.2 (number_ok u a.0 a.1, d.0, d.1)
+    subst (λ (y : AnArc). Written u y.from × Written v y.label × Written w y.to) b.2 (number_ok u a.0 a.1, d.0, d.1)
 
 -- a form whose words are number words is the line of a change
 abbrev Line : List ℕ → Change → Type 0
@@ -156,12 +156,12 @@ numbered_ok (dropped n) ch h =
     let b = number_ok n a.0 a.1 in
     subst (Line (form_text (dropped n))) a.2 ((λ i. codes "drop" ++ (32 ∷ b.text i)), b.small)
 numbered_ok (arc m e n) ch h =
-    let a = over_ok (three_numbers_of m e n) (λ (x : ℕ × ℕ × ℕ). Arc x.0 x.1 x.2) ch h in
+    let a = over_ok (arc_of m e n) Arc ch h in
     let b = three_ok m e n a.0 a.1 in
     subst (Line (form_text (arc m e n))) a.2
     ((λ i. codes "arc" ++ (32 ∷ (b.0.text i ++ (32 ∷ (b.1.text i ++ (32 ∷ b.2.text i)))))), (b.0.small, b.1.small, b.2.small))
 numbered_ok (cut m e n) ch h =
-    let a = over_ok (three_numbers_of m e n) (λ (x : ℕ × ℕ × ℕ). Cut x.0 x.1 x.2) ch h in
+    let a = over_ok (arc_of m e n) Cut ch h in
     let b = three_ok m e n a.0 a.1 in
     subst (Line (form_text (cut m e n))) a.2
     ((λ i. codes "cut" ++ (32 ∷ (b.0.text i ++ (32 ∷ (b.1.text i ++ (32 ∷ b.2.text i)))))), (b.0.small, b.1.small, b.2.small))

@@ -19,8 +19,8 @@ use Rattle.sheet.proofs.LineForms.{ok_same, err_ok, and_then_ok, reads_line, lin
 not_skipped : (ch : Change) → is_skipped_line (change_line ch) ≡ false
 not_skipped (Stage n m) = refl
 not_skipped (Drop n) = refl
-not_skipped (Arc m e n) = refl
-not_skipped (Cut m e n) = refl
+not_skipped (Arc a) = refl
+not_skipped (Cut a) = refl
 not_skipped (Mark n m) = refl
 
 -- a line of a change before others

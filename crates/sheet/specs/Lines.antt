@@ -5,6 +5,7 @@ use Rattle.std.specs.Str.{bytes_eq}
 use Rattle.text.specs.declared.parts.Place.{Place}
 use Rattle.text.specs.Split.{Told, told, words}
 use Rattle.text.specs.Numbers.{number_of}
+use Rattle.rules.specs.declared.change.Arc.{Arc as AnArc}
 use Rattle.rules.specs.declared.change.Change.{Change}
 use Rattle.rules.specs.declared.change.Change.TheVariants as change
 use Rattle.sheet_faults.specs.declared.WordFault.{WordFault}
@@ -70,19 +71,20 @@ number_or p (Some n) = Ok n
 abbrev pub number_of_word : Told → Result ℕ WordFault
 number_of_word w = number_or w.place (number_of w.text)
 
--- The numbers that two and three words are; the first word that is none is the fault.
+-- The numbers that two words are; the first word that is none is the fault.
 abbrev pub two_numbers_of : Told → Told → Result (ℕ × ℕ) WordFault
 two_numbers_of v w = and_then (number_of_word v) (λ x. over (λ y. (x, y)) (number_of_word w))
 
-abbrev pub three_numbers_of : Told → Told → Told → Result (ℕ × ℕ × ℕ) WordFault
-three_numbers_of u v w = and_then (number_of_word u) (λ x. over (λ n. (x, n.0, n.1)) (two_numbers_of v w))
+-- The arc that three words give; the first word that is no number is the fault.
+abbrev pub arc_of : Told → Told → Told → Result AnArc WordFault
+arc_of u v w = and_then (number_of_word u) (λ m. over (λ x. record { from = m; label = x.0; to = x.1 }) (two_numbers_of v w))
 
 -- The change with the numbers that the line's words are.
 abbrev pub numbered : ToldLine → Result Change WordFault
 numbered (stage n m) = over (λ x. change.Stage x.0 x.1) (two_numbers_of n m)
 numbered (dropped n) = over change.Drop (number_of_word n)
-numbered (arc m e n) = over (λ x. change.Arc x.0 x.1 x.2) (three_numbers_of m e n)
-numbered (cut m e n) = over (λ x. change.Cut x.0 x.1 x.2) (three_numbers_of m e n)
+numbered (arc m e n) = over change.Arc (arc_of m e n)
+numbered (cut m e n) = over change.Cut (arc_of m e n)
 numbered (mark n m) = over (λ x. change.Mark x.0 x.1) (two_numbers_of n m)
 
 -- The change that a line of this form asks for.

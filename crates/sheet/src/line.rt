@@ -3,9 +3,9 @@
 ghost use Rattle.std.specs.Prelude.{◌≡◌, option_map};
 ghost use Rattle.text.specs.Split.{told, left};
 ghost use Rattle.text.specs.Outcomes.{over};
-ghost use Rattle.sheet.specs.Lines.{told_line, keyword_of, form_of, line_of, number_of_word, numbered, change_of};
+ghost use Rattle.sheet.specs.Lines.{told_line, keyword_of, form_of, line_of, number_of_word, arc_of, numbered, change_of};
 
-use rules::Change;
+use rules::{Arc, Change};
 use sheet_faults::{LineFault, WordFault};
 use text::{Part, Parts, number};
 
@@ -102,6 +102,16 @@ fn number_at(word: Part) -> Result<u16, WordFault>
     number(word.text()).ok_or(WordFault::NotANumber(word.place))
 }
 
+/// The arc that three words give.
+fn arc_at(from: Part, label: Part, to: Part) -> Result<Arc, WordFault>
+    ensures { result ≡ arc_of (told from.entry) (told label.entry) (told to.entry) }
+{
+    let from = number_at(from)?;
+    let label = number_at(label)?;
+    let to = number_at(to)?;
+    Ok(Arc { from, label, to })
+}
+
 impl<'a> Line<'a> {
     /// The change that the line asks for. Its first word that is no number word is the fault.
     pub fn change(self) -> Result<Change, LineFault>
@@ -124,16 +134,12 @@ impl<'a> Line<'a> {
                 Ok(Change::Drop { stage })
             }
             Line::Arc { from, label, to } => {
-                let from = number_at(from)?;
-                let label = number_at(label)?;
-                let to = number_at(to)?;
-                Ok(Change::Arc { from, label, to })
+                let arc = arc_at(from, label, to)?;
+                Ok(Change::Arc(arc))
             }
             Line::Cut { from, label, to } => {
-                let from = number_at(from)?;
-                let label = number_at(label)?;
-                let to = number_at(to)?;
-                Ok(Change::Cut { from, label, to })
+                let arc = arc_at(from, label, to)?;
+                Ok(Change::Cut(arc))
             }
             Line::Mark { stage, mark } => {
                 let stage = number_at(stage)?;

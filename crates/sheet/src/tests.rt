@@ -1,7 +1,7 @@
 //! Worked cases at the edges of what a sheet may say.
 
 use crate::read_sheet;
-use rules::{BookFault, Change};
+use rules::{Arc, BookFault, Change};
 use sheet_faults::{Declined, SheetFault};
 use std::process::Abort;
 use std::test::Fail;
@@ -47,29 +47,18 @@ fn counts(rt: &impl Abort, sheet: &[u8], count: usize) -> Result<(), Fail> {
     }
 }
 
-/// The numbers of a change, first that of its kind.
-fn numbers(change: Change) -> [u16; 4] {
-    match change {
-        Change::Stage { stage, mark } => [0, stage, mark, 0],
-        Change::Drop { stage } => [1, stage, 0, 0],
-        Change::Arc { from, label, to } => [2, from, label, to],
-        Change::Cut { from, label, to } => [3, from, label, to],
-        Change::Mark { stage, mark } => [4, stage, mark, 0],
-    }
-}
-
-/// The sheet asks for one change, of these numbers, on this line.
+/// The sheet asks for this one change, on this line.
 fn asks(
     rt: &impl Abort,
     sheet: &[u8],
-    expected: [u16; 4],
+    expected: Change,
     line: usize,
     offset: usize,
 ) -> Result<(), Fail> {
     match read_sheet(sheet) {
         Ok(changes) => match changes.as_slice() {
             [only] => {
-                assert!(rt; numbers(only.change) == expected);
+                assert!(rt; only.change == expected);
                 assert!(rt; only.place == Place { line, offset });
                 Ok(())
             }
@@ -81,11 +70,39 @@ fn asks(
 
 #[test]
 fn five_changes(rt: HostRuntime) -> Result<(), Fail> {
-    asks(&rt, b"stage 1 7\n", [0, 1, 7, 0], 1, 0)?;
-    asks(&rt, b"\ndrop 0", [1, 0, 0, 0], 2, 1)?;
-    asks(&rt, b"# remark\n\narc 0 10 255\n\n", [2, 0, 10, 255], 3, 10)?;
-    asks(&rt, b"cut 999 1 2", [3, 999, 1, 2], 1, 0)?;
-    asks(&rt, b"mark 3 4\n#", [4, 3, 4, 0], 1, 0)
+    asks(
+        &rt,
+        b"stage 1 7\n",
+        Change::Stage { stage: 1, mark: 7 },
+        1,
+        0,
+    )?;
+    asks(&rt, b"\ndrop 0", Change::Drop { stage: 0 }, 2, 1)?;
+    let arc = Arc {
+        from: 0,
+        label: 10,
+        to: 255,
+    };
+    asks(
+        &rt,
+        b"# remark\n\narc 0 10 255\n\n",
+        Change::Arc(arc),
+        3,
+        10,
+    )?;
+    let cut = Arc {
+        from: 999,
+        label: 1,
+        to: 2,
+    };
+    asks(&rt, b"cut 999 1 2", Change::Cut(cut), 1, 0)?;
+    asks(
+        &rt,
+        b"mark 3 4\n#",
+        Change::Mark { stage: 3, mark: 4 },
+        1,
+        0,
+    )
 }
 
 #[test]

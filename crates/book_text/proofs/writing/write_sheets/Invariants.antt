@@ -1,7 +1,10 @@
-use Rattle.std.proofs.Common.{◌≡◌, ◌++◌, drop, string_bytes}
+use Rattle.std.proofs.Common.{◌≡◌, ◌++◌, string_bytes}
 use Rattle.book_text.specs.Canonical.{in_sheets}
+use Rattle.book_text.proofs.Sheets.{sheets_left}
 use Rattle.book_text.proofs.writing.write_sheets.Given as goal
 
-abbrev pub invariant-loop-change : goal.invariant-loop-change
-invariant-loop-change l =
-    string_bytes l.text ++ in_sheets l.room (drop l.change-index l.changes) ≡ string_bytes l.initial.text ++ in_sheets 64 l.changes
+abbrev pub invariant-loop-sheet : goal.invariant-loop-sheet
+invariant-loop-sheet l = record {
+  size : l.sheet-iterator.size ≡ 64;
+  text : string_bytes l.text ++ sheets_left l.sheet-iterator.rest.now ≡ string_bytes l.initial.text ++ in_sheets 64 l.changes;
+}

@@ -1,6 +1,10 @@
 use Rattle.std.proofs.Common.{vec_items}
-use Rattle.book_text.proofs.Sheets.{whole_text}
+use Rattle.book.specs.Records.{rules_of}
+use Rattle.book_text.proofs.Sheets.{some_change, whole_text}
 use Rattle.book_text.proofs.writing.written.Goals as goal
+
+pub write_sheets-requires : goal.write_sheets-requires
+write_sheets-requires c = some_change (rules_of c.args.book.now) _ _ c.as_slice.ensures.value c.in_ok-changes.ensures
 
 pub returns : goal.returns
 returns c = record {

@@ -3,7 +3,7 @@ use Rattle.book.proofs.BookWrites.{consistent_fresh, fresh_meant}
 use Rattle.book.proofs.record.Book.begun.Goals as goal
 
 pub invariant_of-result : goal.invariant_of-result
-invariant_of-result c = record { consistent = consistent_fresh c.args.events _ _ _ c.requires.0 c.requires.1 refl refl refl }
+invariant_of-result c = record { consistent = consistent_fresh c.args.events _ _ c.requires.some c.requires.few refl refl }
 
 pub returns : goal.returns
-returns c = fresh_meant c.args.events _ _ _ refl refl refl
+returns c = fresh_meant c.args.events _ _ refl refl

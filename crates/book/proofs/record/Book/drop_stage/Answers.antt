@@ -1,8 +1,8 @@
-use Rattle.std.proofs.Common.{arith, rules}
-use Rattle.book.proofs.BookWrites.{consistent_drop}
+use Rattle.std.proofs.Common.{rules, sym, ◌∙◌}
+use Rattle.book.proofs.BookWrites.{joined_meant}
 use Rattle.book.proofs.record.Book.drop_stage.Goals as goal
 
-pub invariant_of-self : goal.invariant_of-self
-invariant_of-self c =
-    let b = c.args.self.now in
-    record { consistent = consistent_drop b.events b.live b.marks b.arcs b.count c.args.stage b.consistent (omega arith) (search rules) (search rules) }
+pub returns : goal.returns
+returns c =
+    let h = joined_meant c.args.self.now c.args.stage ∙ sym c.if-has_arcs.ensures in
+    (search (rules, h), search rules)
