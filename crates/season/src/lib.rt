@@ -2,7 +2,7 @@
 
 #![tactic(auto)]
 
-ghost use Rattle.std.specs.Prelude.{◌≡◌, IfOk, string_bytes, codes, OnOk};
+ghost use Rattle.std.specs.Prelude.{◌≡◌, ◌++◌, IfOk, string_bytes, OnOk};
 ghost use Rattle.book.specs.Records.{rules_of};
 ghost use Rattle.season_text.specs.Seasons.{sheets_of};
 ghost use Rattle.season.specs.RoundTrip.{ReadsBack};
@@ -14,6 +14,7 @@ use book_update::apply_sheet;
 use season_text::{Sheets, events};
 use sheet_faults::SheetFault;
 use std::alloc::{AllocError, Global};
+use text::Place;
 
 mod round_trip;
 
@@ -31,77 +32,48 @@ pub fn respond(heap: Global, input: &[u8]) -> Result<String, AllocError>
     ensures again { ReadsBack }
 {
     canonical_text_reads_back();
-    let fresh = match events(input) {
-        Some(number) => Book::fresh(number),
-        None => None,
+    let Some(book) = events(input).and_then(Book::fresh) else {
+        return String::from_str(heap, "no 1 0 0\n");
     };
-    match fresh {
-        Some(book) => check_season(heap, book, input),
-        None => no_events(heap),
-    }
-}
-
-/// The answer where the first line is no number of events.
-fn no_events(heap: Global) -> Result<String, AllocError>
-    ensures { IfOk result (λ s. string_bytes s ≡ codes "no 1 0 0\n") }
-{
-    String::from_str(heap, "no 1 0 0\n")
+    check_season(heap, book, input)
 }
 
 /// The answer to a season's sheets, begun with a book.
-fn check_season(heap: Global, book: Book, input: &[u8]) -> Result<String, AllocError>
+fn check_season(heap: Global, mut book: Book, input: &[u8]) -> Result<String, AllocError>
     ensures { IfOk result (λ s. Checked (rules_of book) (sheets_of input.now) (string_bytes s)) }
 {
-    let mut book = book;
     let mut text = String::new(heap);
-    check_sheets(&mut text, heap, &mut book, input)?;
-    text.push_str("book\n")?;
+    check_sheets(&mut text, &mut book, input)?;
     let canonical = write_book(heap, &book)?;
-    text.push_str(canonical.as_str())?;
+    write!(text, "book\n{canonical}")?;
     Ok(text)
 }
 
 /// Applies each sheet to the book, and writes its answer.
-fn check_sheets(
-    text: &mut String,
-    heap: Global,
-    book: &mut Book,
-    input: &[u8],
-) -> Result<(), AllocError>
+fn check_sheets(text: &mut String, book: &mut Book, input: &[u8]) -> Result<(), AllocError>
     ensures { OnOk result (Answered (string_bytes text.old) (rules_of book.old) (sheets_of input.now) (string_bytes text.new) (rules_of book.new)) }
 {
-    let mut sheets = Sheets::of_season(input);
-    while let Some(sheet) = sheets.next() {
-        check_sheet(text, heap, book, sheet)?;
+    for sheet in Sheets::of_season(input) {
+        check_sheet(text, book, sheet)?;
     }
     Ok(())
 }
 
 /// Applies a sheet to the book, and writes its answer.
-fn check_sheet(
-    text: &mut String,
-    heap: Global,
-    book: &mut Book,
-    sheet: &[u8],
-) -> Result<(), AllocError>
+fn check_sheet(text: &mut String, book: &mut Book, sheet: &[u8]) -> Result<(), AllocError>
     ensures { OnOk result (SheetAnswered (string_bytes text.old) (rules_of book.old) sheet.now (string_bytes text.new) (rules_of book.new)) }
 {
-    let line = match apply_sheet(book, WIDTH, sheet) {
-        Ok(changes) => format!(in heap; "ok {changes}\n")?,
-        Err(fault) => fault_line(heap, fault)?,
-    };
-    text.push_str(line.as_str())?;
-    Ok(())
+    match apply_sheet(book, WIDTH, sheet) {
+        Ok(changes) => write!(text, "ok {changes}\n"),
+        Err(fault) => write_fault(text, fault),
+    }
 }
 
-/// The answer to a sheet that is refused.
-fn fault_line(heap: Global, fault: SheetFault) -> Result<String, AllocError>
-    ensures { IfOk result (λ s. string_bytes s ≡ fault_text fault) }
+/// Writes the answer to a sheet that is refused.
+fn write_fault(text: &mut String, fault: SheetFault) -> Result<(), AllocError>
+    ensures { OnOk result (string_bytes text.new ≡ string_bytes text.old ++ fault_text fault) }
 {
     let number = fault.number();
-    let place = fault.place();
-    let line = place.line;
-    let offset = place.offset;
-    let text = format!(in heap; "no {number} {line} {offset}\n")?;
-    Ok(text)
+    let Place { line, offset } = fault.place();
+    write!(text, "no {number} {line} {offset}\n")
 }
