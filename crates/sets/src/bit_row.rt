@@ -7,8 +7,9 @@ ghost use Rattle.std.proofs.Common.{rules};
 use crate::four_words;
 use crate::small_set::SmallSet;
 
-/// A set of numbers below 256, quick by operations on whole words.
-#[derive(Clone, Copy)]
+/// A set of numbers below 256, quick by operations on whole words. Each set has one row, so `==` tells whether two
+/// rows have the same members.
+#[derive(Clone, Copy, Debug, PartialEq, Eq)]
 pub struct BitRow {
     words: [u64; 4],
 }
@@ -26,10 +27,6 @@ impl SmallSet for BitRow {
 
     ghost every = { λ p. (record { words = row_of p }, λ n h. row_of_lem p n h) };
 
-    fn width() -> u16 {
-        Self::W
-    }
-
     fn empty() -> BitRow {
         BitRow {
             words: four_words::none(),
@@ -37,9 +34,8 @@ impl SmallSet for BitRow {
     }
 
     fn insert(&mut self, n: u16) -> bool {
-        let grows = n < 256 && !four_words::has(&self.words, n);
-        let words = four_words::with(self.words, n);
-        self.words = words;
+        let grows = n < Self::W && !self.contains(n);
+        self.words = four_words::with(self.words, n);
         grows
     }
 

@@ -1,4 +1,4 @@
-use Rattle.sets.specs.FourWordsLemmas.{row_none}
+use Rattle.sets.proofs.Rows.{row_none}
 use Rattle.sets.proofs.four_words.none.Goals as goal
 
 pub returns : goal.returns

@@ -1,5 +1,10 @@
-use Rattle.sets.specs.AscendingListsLemmas.{among_empty}
+use Rattle.std.proofs.Common.{arith, refl}
+use Rattle.sets.specs.ListRecordsLemmas.{ascend_nil}
+use Rattle.sets.proofs.Lists.{passing, members_are}
 use Rattle.sets.proofs.ascending_list.AscendingList.empty.Goals as goal
 
+pub invariant_of-result : goal.invariant_of-result
+invariant_of-result c = record { ascends = passing _ (omega arith) (ascend_nil 0) }
+
 pub returns : goal.returns
-returns c = λ n. among_empty _ n
+returns c = members_are _ (passing _ (omega arith) (ascend_nil 0))

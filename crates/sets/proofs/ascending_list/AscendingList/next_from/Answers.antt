@@ -1,8 +1,21 @@
-use Rattle.sets.specs.AscendingLists.{among}
-use Rattle.sets.specs.AscendingListsLemmas.{first_all, among_below}
+use Rattle.std.proofs.Common.{ltb, sym, ap, ◌∙◌, rules, tests}
+use Rattle.std.proofs.lemmas.Bool.{ltb-true, ltb-false}
+use Rattle.std.proofs.lemmas.List.Sorted.{IsPartitionPoint-from_clause}
+use Rattle.sets.specs.ListRecords.{listed}
+use Rattle.sets.proofs.Lists.{Parts, parted, next_none, next_some}
 use Rattle.sets.proofs.ascending_list.AscendingList.next_from.Goals as goal
 
-pub returns-else-n-lt64 : goal.returns-else-n-lt64
-returns-else-n-lt64 c =
-    first_all (among c.args.self.now.items c.args.self.now.len) c.args.from c.first_from-n.result c.first_from-n.ensures c.if-n-lt64.false
-    (among_below c.args.self.now.items c.args.self.now.len c.args.self.now.ascends)
+pub returns-in_err-next : goal.returns-in_err-next
+returns-in_err-next c =
+    let part = IsPartitionPoint-from_clause (λ y. ltb y c.args.from) (listed c.args.self.now.inner) c.partition_point-at.result
+    (rw c.as_slice-list.ensures at c.partition_point-at.ensures.partitioned) (parted c.args.self.now.inner c.args.from c.args.self.now.ascends) (λ a r q k. search (rules, tests)) in
+    rw c.from_residual.ensures (next_none c.args.self.now.inner c.args.from c.partition_point-at.result c.args.self.now.ascends part
+    (rw c.as_slice-list.ensures at (ltb-false _ _ (sym c.in_err-next.ensures.lookup.0))))
+
+pub returns : goal.returns
+returns c =
+    let part = IsPartitionPoint-from_clause (λ y. ltb y c.args.from) (listed c.args.self.now.inner) c.partition_point-at.result
+    (rw c.as_slice-list.ensures at c.partition_point-at.ensures.partitioned) (parted c.args.self.now.inner c.args.from c.args.self.now.ascends) (λ a r q k. search (rules, tests)) in
+    rw c.from.ensures (next_some c.args.self.now.inner c.args.from c.partition_point-at.result c.in_ok-next.field-0.now c.args.self.now.ascends part
+    (rw c.as_slice-list.ensures at (ltb-true _ _ (sym c.in_ok-next.ensures.lookup.0)))
+    (rw c.as_slice-list.ensures at c.in_ok-next.ensures.lookup.1))

@@ -1,12 +1,11 @@
-use Rattle.std.proofs.Common.{sym, ◌∙◌}
-use Rattle.sets.specs.AscendingListsLemmas.{record_passes, record_fails, passes_ascending}
+use Rattle.std.proofs.Common.{sym, ap, ◌∙◌}
+use Rattle.sets.specs.ListRecords.{members}
+use Rattle.sets.proofs.Lists.{no_members}
 use Rattle.sets.proofs.ascending_list.AscendingList.of_record.Goals as goal
-
-pub returns-then-not-passes_check : goal.returns-then-not-passes_check
-returns-then-not-passes_check c = λ n. c.empty.ensures n ∙ sym (record_fails c.args.record.now.len c.args.record.now.items (sym c.if-not-passes_check.ensures.test) n)
-
-pub invariant_of-result : goal.invariant_of-result
-invariant_of-result c = record { ascends = passes_ascending c.args.record.now.len c.args.record.now.items (sym c.if-not-passes_check.ensures.test) }
+use Rattle.sets.proofs.ascending_list.AscendingList.of_record.Goals.{then-passes_check, else-passes_check}
 
 pub returns : goal.returns
-returns c = λ n. sym (record_passes c.args.record.now.len c.args.record.now.items (sym c.if-not-passes_check.ensures.test) n)
+returns c n = elim c.if-passes_check.branch [
+  | then-passes_check w ↦ ap (λ r. members r.0 n) w.result-is
+  | else-passes_check w ↦ ap (λ r. members r.0 n) w.result-is ∙ w.empty.ensures n ∙ sym (no_members c.args.record (sym c.passes_check.ensures.test ∙ w.if-passes_check.false) n)
+]

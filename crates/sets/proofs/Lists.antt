@@ -1,0 +1,280 @@
+-- What is true of lists of ascending numbers, and of the records that list them. Assumes nothing.
+use Rattle.std.proofs.Common.{◌≡◌, ℕ, zero, suc, ◌+◌, ◌<◌, ◌≤◌, Bool, true, false, ◌&&◌, ◌||◌, ◌⊎◌, ltb, eqb, List, [], ◌∷◌, ◌++◌, length, get_or, set, take, Option, Some, None, min, refl, subst, sym, ap, ap₂, ◌∙◌, inl, inr, ⊎_elim, add-one, arith}
+use Rattle.std.specs.Prelude.{IsTrue, ◌↔◌, nat_eq}
+use lib.Pointwise.{pointwise}
+use Rattle.std.specs.Cmp.Lexicographic.{told_text}
+use Rattle.std.specs.List.{list_any, AllWithin, IsAllAdjacentAnswer}
+use Rattle.std.specs.List.Sorted.{IsPartitionedBy, IsPartitionPoint}
+use Rattle.std.proofs.lemmas.List.Sorted.{IsPartitionedBy-ltb}
+use Rattle.std.proofs.lemmas.List.{get_or-take, get_or_read, length-take-le, length-append, take_more_set}
+use Rattle.std.proofs.lemmas.List.Folds.{list_any_at, list_any_none}
+use Rattle.std.proofs.lemmas.Bool.{false≢true, lt-ltb, ltb-true, ltb-false, le-leb, lt-leb, leb-true, eq-eqb, ne_eqb, eqb-true, both_ways, cases_eq, cases_lt, cases_Bool, and_parts, and_from, and_left, or_left, or_right, or_from, or_cases}
+use Rattle.std.proofs.lemmas.Bool.Decides.{nat_tests}
+use Rattle.sets.specs.Members.{one, size, SameMembers, NextFrom, lesser_of}
+use Rattle.sets.specs.Sizes.{size_alike}
+use Rattle.sets.specs.declared.list_record.ListRecord.{ListRecord}
+use Rattle.sets.specs.Ascending.{ascend_from, among}
+use Rattle.sets.specs.ListRecords.{listed, passes, members, Ascends}
+use Rattle.sets.specs.ListRecordsLemmas.{ascend_parts, ascend_cons, ascend_nil, among_between, ascend_push, among_push, members_below}
+
+not_among : (x n : ℕ) (xs : List ℕ) → ascend_from (x + 1) xs ≡ true → n ≤ x → among xs n ≡ false
+not_among x n xs a h = ⊎_elim
+    (λ (e : among xs n ≡ true). absurd (let b = among_between (x + 1) xs n a e in let z : ⊥ = omega arith in z))
+    (λ (e : among xs n ≡ false). e)
+    (cases_Bool (among xs n))
+
+pub length_ascending : (least : ℕ) (xs : List ℕ) → ascend_from least xs ≡ true → least ≤ 64 → least + length xs ≤ 64
+length_ascending least [] a h = omega arith
+length_ascending least (x ∷ xs) a h = let p = ascend_parts least x xs a in let rest = length_ascending (x + 1) xs p.2 (omega arith) in omega arith
+
+-- ---- how many
+
+size_empty : (w : ℕ) → size w (λ _. false) ≡ 0
+unfolding size
+size_empty zero = refl
+size_empty (suc w) = let h = size_empty w in omega arith
+
+size_more : (w m : ℕ) (p q : ℕ → Bool) → m < w → p m ≡ false → ((n : ℕ) → q n ≡ (eqb m n || p n)) → size w q ≡ size w p + 1
+unfolding size
+size_more zero m p q l h e = absurd (let z : ⊥ = omega arith in z)
+size_more (suc v) m p q l h e = ⊎_elim
+    (λ (x : m ≡ v).
+    let rest = size_alike v q p (λ k b. e k ∙ ap (λ (t : Bool). t || p k) (ne_eqb m k (λ (y : m ≡ k). omega arith))) in
+    let top : one (q v) ≡ 1 = ap one (e v ∙ ap (λ (t : Bool). t || p v) (eq-eqb m v x)) in
+    let was : one (p v) ≡ 0 = ap one (ap p (sym x) ∙ h) in
+    omega arith)
+    (λ (x : m ≡ v → ⊥).
+    let rest = size_more v m p q (omega arith) h e in
+    let top : one (q v) ≡ one (p v) = ap one (e v ∙ ap (λ (t : Bool). t || p v) (ne_eqb m v x)) in
+    omega arith)
+    (cases_eq m v)
+
+pub size_ascending : (least : ℕ) (xs : List ℕ) → ascend_from least xs ≡ true → size 64 (among xs) ≡ length xs
+size_ascending least [] a = size_empty 64
+size_ascending least (x ∷ xs) a =
+    let p = ascend_parts least x xs a in
+    let rest = size_ascending (x + 1) xs p.2 in
+    let more = size_more 64 x (among xs) (among (x ∷ xs)) p.1 (not_among x x xs p.2 (omega arith)) (λ n. refl) in
+    omega arith
+
+-- ---- lists with the same members
+
+first_among : (x : ℕ) (xs : List ℕ) → among (x ∷ xs) x ≡ true
+first_among x xs = or_left (eqb x x) (among xs x) (eq-eqb x x refl)
+
+least_first : (least x n : ℕ) (xs : List ℕ) → ascend_from least (x ∷ xs) ≡ true → among (x ∷ xs) n ≡ true → x ≤ n
+least_first least x n xs a h = let p = ascend_parts least x xs a in (among_between x (x ∷ xs) n (ascend_cons x x xs (omega arith) p.1 p.2) h).0
+
+tails_same : (b c d : Bool) → b ≡ false → (b || c) ≡ (b || d) → c ≡ d
+tails_same b c d e h = grind arith
+
+pub same_ascending : (l m : ℕ) (xs ys : List ℕ) → ascend_from l xs ≡ true → ascend_from m ys ≡ true → SameMembers (among xs) (among ys) → xs ≡ ys
+same_ascending l m [] [] a b h = refl
+same_ascending l m [] (y ∷ ys) a b h = absurd (false≢true (h y ∙ first_among y ys))
+same_ascending l m (x ∷ xs) [] a b h = absurd (false≢true (sym (h x) ∙ first_among x xs))
+same_ascending l m (x ∷ xs) (y ∷ ys) a b h =
+    let p = ascend_parts l x xs a in
+    let q = ascend_parts m y ys b in
+    let up = least_first m y x ys b (sym (h x) ∙ first_among x xs) in
+    let down = least_first l x y xs a (h y ∙ first_among y ys) in
+    let first : x ≡ y = omega arith in
+    ap₂ (λ (z : ℕ) (zs : List ℕ). z ∷ zs) first (same_ascending (x + 1) (y + 1) xs ys p.2 q.2 (λ n. ⊎_elim
+    (λ (e : n ≤ x). not_among x n xs p.2 e ∙ sym (not_among y n ys q.2 (omega arith)))
+    (λ (e : x < n). tails_same (eqb x n) (among xs n) (among ys n) (ne_eqb x n (λ (z : x ≡ n). omega arith)) (h n ∙ ap (λ (z : ℕ). eqb z n || among ys n) (sym first)))
+    (cases_le n x)))
+  where
+    cases_le : (n x : ℕ) → (n ≤ x) ⊎ (x < n)
+    cases_le n x = ⊎_elim (λ (e : x < n). inr e) (λ (e : n ≤ x). inl e) (cases_lt x n)
+
+-- ---- by place
+
+at_least : (least : ℕ) (xs : List ℕ) → ascend_from least xs ≡ true → (i d : ℕ) → i < length xs → (least ≤ get_or xs i d) × (get_or xs i d < 64)
+at_least least xs a i d h = among_between least xs (get_or xs i d) a (list_any_at (λ x. eqb x (get_or xs i d)) xs i d h (eq-eqb _ _ refl))
+
+pub rises : (least : ℕ) (xs : List ℕ) → ascend_from least xs ≡ true → (i j d : ℕ) → i < j → j < length xs → get_or xs i d < get_or xs j d
+rises least [] a i j d l h = absurd (let z : ⊥ = omega arith in z)
+rises least (x ∷ xs) a zero zero d l h = absurd (let z : ⊥ = omega arith in z)
+rises least (x ∷ xs) a (suc i) zero d l h = absurd (let z : ⊥ = omega arith in z)
+rises least (x ∷ xs) a zero (suc j) d l h = let first = at_least (x + 1) xs (ascend_parts least x xs a).2 j d (omega arith) in omega arith
+rises least (x ∷ xs) a (suc i) (suc j) d l h = rises (x + 1) xs (ascend_parts least x xs a).2 i j d (omega arith) (omega arith)
+
+rises_over : (least : ℕ) (xs : List ℕ) → ((i : ℕ) → i < length xs → get_or xs i 0 < 64) → ((i : ℕ) → suc i < length xs → get_or xs i 0 < get_or xs (suc i) 0)
+    → (0 < length xs → least ≤ get_or xs 0 0) → ascend_from least xs ≡ true
+rises_over least [] small up low = ascend_nil least
+rises_over least (x ∷ xs) small up low =
+    ascend_cons least x xs (low (omega arith)) (small 0 (omega arith))
+    (rises_over (x + 1) xs (λ i h. small (suc i) (omega arith)) (λ i h. up (suc i) (omega arith)) (λ h. let next = up 0 (omega arith) in omega arith))
+
+-- ---- records
+
+module _ (r : ListRecord) where
+  pub len_fits : IsTrue (passes r) → r.len ≤ 64
+  unfolding passes
+  len_fits h = leb-true _ _ (and_parts _ _ h).0
+
+  pub ascending : IsTrue (passes r) → ascend_from 0 (listed r) ≡ true
+  unfolding passes
+  ascending h = (and_parts _ _ h).1
+
+  pub passing : r.len ≤ 64 → ascend_from 0 (listed r) ≡ true → IsTrue (passes r)
+  unfolding passes
+  passing l h = and_from _ _ (le-leb _ _ l) h
+
+  pub members_are : IsTrue (passes r) → (n : ℕ) → members r n ≡ among (listed r) n
+  unfolding members
+  members_are h n = rw h
+
+  pub no_members : passes r ≡ false → (n : ℕ) → members r n ≡ false
+  unfolding members
+  no_members h n = rw h
+
+  pub passes_short : r.len ≤ 64 → passes r ≡ ascend_from 0 (listed r)
+  unfolding passes
+  passes_short h = let short = le-leb _ _ h in rw short
+
+  pub fails_long : 64 < r.len → passes r ≡ false
+  unfolding passes
+  fails_long h = and_left _ _ (lt-leb _ _ h)
+
+-- ---- one more at the end
+
+module _ (r : ListRecord) (n : ℕ) (h : IsTrue (passes r)) (whole : length r.items ≡ 64) (small : n < 64) (above : (k : ℕ) → members r k ≡ true → k < n) where
+  pushed : ascend_from 0 (listed r ++ n ∷ []) ≡ true
+  pushed = ascend_push 0 (listed r) n (ascending r h) (omega arith) small (λ k e. above k (members_are r h k ∙ e))
+
+  pub push_room : r.len < 64
+  push_room =
+      let all = length_ascending 0 (listed r ++ n ∷ []) pushed (omega arith) in
+      let len = length-take-le r.len r.items (omega (arith, len_fits r h)) in
+      omega (arith, length-append (listed r) (n ∷ []))
+
+  pub push_passes : IsTrue (passes record { len = r.len + 1; items = set r.items r.len n })
+  push_passes = passing _ (omega (arith, push_room)) (ap (ascend_from 0) (take_more_set r.items r.len n (omega (arith, push_room))) ∙ pushed)
+
+  pub push_members : (k : ℕ) → members record { len = r.len + 1; items = set r.items r.len n } k ≡ (members r k || eqb k n)
+  push_members k =
+      members_are _ push_passes k
+      ∙ ap (λ (xs : List ℕ). among xs k) (take_more_set r.items r.len n (omega (arith, push_room)))
+      ∙ among_push (listed r) n k
+      ∙ ap (λ (b : Bool). b || eqb k n) (sym (members_are r h k))
+
+-- ---- the number of members, and records with the same
+
+pub size_members : (r : ListRecord) → IsTrue (passes r) → length r.items ≡ 64 → size 64 (members r) ≡ r.len
+size_members r h whole =
+    size_alike 64 (members r) (among (listed r)) (λ k l. members_are r h k)
+    ∙ size_ascending 0 (listed r) (ascending r h)
+    ∙ length-take-le r.len r.items (omega (arith, len_fits r h))
+
+pub same_records : (r s : ListRecord) (b : Bool) → IsTrue (passes r) → IsTrue (passes s) → b ≡ pointwise nat_eq (listed r) (listed s) → IsTrue b ↔ SameMembers (members r) (members s)
+same_records r s true g h is = ((λ _ k. members_are r g k ∙ ap (λ (xs : List ℕ). among xs k) (told_text (listed r) (listed s) true is) ∙ sym (members_are s h k)), (λ _. refl))
+same_records r s false g h is = (
+  (λ e. absurd (false≢true e)),
+  (λ same. absurd (told_text (listed r) (listed s) false is
+      (same_ascending 0 0 (listed r) (listed s) (ascending r g) (ascending s h) (λ k. sym (members_are r g k) ∙ same k ∙ members_are s h k)))),
+)
+
+-- ---- the next member
+
+not_listed : (xs : List ℕ) (n : ℕ) → ((k d : ℕ) → k < length xs → get_or xs k d ≡ n → ⊥) → among xs n ≡ false
+not_listed xs n h = list_any_none (λ x. eqb x n) xs (λ k d l. ne_eqb _ _ (h k d l))
+
+pub parted : (r : ListRecord) (t : ℕ) → IsTrue (passes r) → IsPartitionedBy (λ y. ltb y t) (listed r)
+parted r t h = IsPartitionedBy-ltb (λ x. x) (listed r) t (λ i j d a l. ⊎_elim
+    (λ (e : i ≡ j). let same = ap (λ (k : ℕ). get_or (listed r) k d) e in omega arith)
+    (λ (e : i ≡ j → ⊥). let up = rises 0 (listed r) (ascending r h) i j d (omega arith) l in omega arith)
+    (cases_eq i j))
+
+abbrev pub Parts : ListRecord → ℕ → ℕ → Type 0
+Parts r t i = IsPartitionPoint (λ y. ltb y t ≡ true) (λ y. ltb y t ≡ false) (listed r) i
+
+pub next_none : (r : ListRecord) (t i : ℕ) → IsTrue (passes r) → Parts r t i → length (listed r) ≤ i → (n : ℕ) → t ≤ n → members r n ≡ false
+next_none r t i h part end n a = members_are r h n ∙ not_listed (listed r) n (λ k d l e. let low = ltb-true _ _ (part.0 k d (omega arith) (omega arith)) in omega arith)
+
+pub next_some : (r : ListRecord) (t i x : ℕ) → IsTrue (passes r) → Parts r t i → i < length (listed r) → x ≡ get_or (listed r) i x → NextFrom (members r) t (Some x)
+next_some r t i x h part l is = (
+  (let high = ltb-false _ _ (part.1 i x (omega arith) l) in omega arith),
+  members_are r h x ∙ list_any_at (λ y. eqb y x) (listed r) i x l (eq-eqb _ _ (sym is)),
+  λ n a b. members_are r h n ∙ not_listed (listed r) n (λ k d m e. ⊎_elim
+      (λ (z : k < i). let low = ltb-true _ _ (part.0 k d (omega arith) z) in omega arith)
+      (λ (z : i ≤ k). let first = get_or_read (listed r) i x l is d in ⊎_elim
+      (λ (y : i ≡ k). let same = ap (λ (j : ℕ). get_or (listed r) j d) y in omega arith)
+      (λ (y : i ≡ k → ⊥). let up = rises 0 (listed r) (ascending r h) i k d (omega arith) m in omega arith)
+      (cases_eq i k))
+      (cases_lt k i)),
+)
+
+-- ---- the check
+
+-- the check of a list by its neighbours
+pub ascends_by : (xs : List ℕ) (r : Bool) → AllWithin (λ x. x < 64) xs 0 (length xs) → IsAllAdjacentAnswer (λ x y b. b ≡ ltb x y) xs r → r ≡ ascend_from 0 xs
+ascends_by xs true small up = sym (rises_over 0 xs (λ i l. small i 0 (omega arith) l) (λ i l. ltb-true _ _ (ap (ltb _) (ap (λ (k : ℕ). get_or xs k 0) (sym (add-one i))) ∙ sym (up i 0 (omega arith)))) (λ _. omega arith))
+ascends_by xs false small falls = ⊎_elim
+    (λ (e : ascend_from 0 xs ≡ true). let up = rises 0 xs e falls.0 (falls.0 + 1) 0 (omega arith) falls.1 in let not_up = ltb-false _ _ (sym (falls.2 0)) in absurd (let z : ⊥ = omega arith in z))
+    (λ (e : ascend_from 0 xs ≡ false). sym e)
+    (cases_Bool (ascend_from 0 xs))
+
+pub not_small : (xs : List ℕ) (k : ℕ) → k < length xs → 64 ≤ get_or xs k 0 → false ≡ ascend_from 0 xs
+not_small xs k l h = ⊎_elim
+    (λ (e : ascend_from 0 xs ≡ true). let at = at_least 0 xs e k 0 l in absurd (let z : ⊥ = omega arith in z))
+    (λ (e : ascend_from 0 xs ≡ false). sym e)
+    (cases_Bool (ascend_from 0 xs))
+
+-- the check of a record says that its items ascend
+passes_ascends : (r : ListRecord) → length r.items ≡ 64 → IsTrue (passes r) ↔ Ascends r
+passes_ascends r whole = (
+  (λ h.
+      let a = ascending r h in
+      let fits = len_fits r h in
+      let long = length-take-le r.len r.items (omega arith) in
+      let at : (i : ℕ) → i < r.len → get_or (listed r) i 0 ≡ get_or r.items i 0 = λ i l. get_or-take r.len r.items i 0 l in
+      (fits, (λ i l. let b = at_least 0 (listed r) a i 0 (omega arith) in let e = at i l in omega arith),
+      (λ i l. let b = rises 0 (listed r) a i (i + 1) 0 (omega arith) (omega arith) in let e = at i (omega arith) in let f = at (i + 1) l in omega arith))),
+  (λ h.
+      let long = length-take-le r.len r.items (omega (arith, h.0)) in
+      let at : (i : ℕ) → i < r.len → get_or (listed r) i 0 ≡ get_or r.items i 0 = λ i l. get_or-take r.len r.items i 0 l in
+      passing r h.0 (rises_over 0 (listed r)
+      (λ i l. let b = h.1 i (omega arith) in let e = at i (omega arith) in omega arith)
+      (λ i l. let b = h.2 i (omega arith) in let e = at i (omega arith) in let f = at (suc i) (omega arith) in let g = ap (λ (k : ℕ). get_or r.items k 0) (add-one i) in omega arith)
+      (λ _. omega arith))),
+)
+
+pub check_ascends : (r : ListRecord) (b : Bool) → length r.items ≡ 64 → b ≡ passes r → IsTrue b ↔ Ascends r
+check_ascends r b whole is = subst (λ (x : Bool). IsTrue x ↔ Ascends r) (sym is) (passes_ascends r whole)
+
+-- ---- a merge
+
+-- the next member of either of two sets
+next_lesser : (p q : ℕ → Bool) (from : ℕ) (a b : Option ℕ) → NextFrom p from a → NextFrom q from b → NextFrom (λ k. p k || q k) from (lesser_of a b)
+next_lesser p q from None None f g = λ k l. or_from _ _ (f k l) (g k l)
+next_lesser p q from (Some a) None f g = (f.0, or_left _ _ f.1, λ k l h. or_from _ _ (f.2 k l h) (g k l))
+next_lesser p q from None (Some b) f g = (g.0, or_right _ _ g.1, λ k l h. or_from _ _ (f k l) (g.2 k l h))
+next_lesser p q from (Some a) (Some b) f g = (
+  omega (arith, f.0, g.0),
+  ⊎_elim
+      (λ (e : a < b). let is : min a b ≡ a = omega arith in rw is (or_left _ _ f.1))
+      (λ (e : b ≤ a). let is : min a b ≡ b = omega arith in rw is (or_right _ _ g.1))
+      (cases_lt a b),
+  λ k l h. or_from _ _ (f.2 k l (omega arith)) (g.2 k l (omega arith)),
+)
+
+pub next_either : (r s : ListRecord) (from n : ℕ) (a b o : Option ℕ) → NextFrom (members r) from a → NextFrom (members s) from b → o ≡ lesser_of a b → o ≡ Some n
+    → (n < 64) × NextFrom (λ k. members r k || members s k) from (Some n)
+next_either r s from n a b o f g is found =
+    let next = subst (λ (x : Option ℕ). NextFrom (λ k. members r k || members s k) from x) (sym is ∙ found) (next_lesser (members r) (members s) from a b f g) in (
+      ⊎_elim (λ (e : members r n ≡ true). members_below r n e) (λ (e : members s n ≡ true). members_below s n e) (or_cases _ _ next.1),
+      next,
+    )
+
+-- r has the members of u below from, and t has one more, the next
+pub merge_step : (u r t : ℕ → Bool) (from n : ℕ) → NextFrom u from (Some n) → ((k : ℕ) → r k ≡ (ltb k from && u k)) → ((k : ℕ) → t k ≡ (r k || eqb k n)) → (k : ℕ) → t k ≡ (ltb k (n + 1) && u k)
+merge_step u r t from n next was is k = is k ∙ ap (λ b. b || eqb k n) (was k) ∙ ⊎_elim
+    (λ (e : k ≡ n). member (u k) (ap u e ∙ next.1) e)
+    (λ (e : k ≡ n → ⊥). other (u k) e (next.2 k))
+    (cases_eq k n)
+  where
+    member : (b : Bool) → b ≡ true → k ≡ n → ((ltb k from && b) || eqb k n) ≡ (ltb k (n + 1) && b)
+    member b h e = grind (arith, nat_tests)
+
+    other : (b : Bool) → (k ≡ n → ⊥) → (from ≤ k → k < n → b ≡ false) → ((ltb k from && b) || eqb k n) ≡ (ltb k (n + 1) && b)
+    other b e gap = let low = next.0 in grind (arith, nat_tests)
