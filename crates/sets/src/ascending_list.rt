@@ -10,17 +10,17 @@ use crate::list_record::ListRecord;
 /// A record that passes the check.
 #[derive(Clone, Copy)]
 pub struct AscendingList {
-    inner: ListRecord,
-    ghost ascends: { IsTrue (passes inner) },
+    record: ListRecord,
+    ghost ascends: { IsTrue (passes «record») },
 }
 
 impl AscendingList {
     /// The list without members.
     pub fn empty() -> AscendingList
-        ensures { (n : ℕ) → members result.inner n ≡ false }
+        ensures { (n : ℕ) → members result.record n ≡ false }
     {
         AscendingList {
-            inner: ListRecord {
+            record: ListRecord {
                 len: 0,
                 items: [0; 64],
             },
@@ -29,33 +29,25 @@ impl AscendingList {
 
     /// The list of a record that passes the check, and else the empty list.
     pub fn of_record(record: ListRecord) -> AscendingList
-        ensures { (n : ℕ) → members result.inner n ≡ members «record» n }
+        ensures { (n : ℕ) → members result.record n ≡ members «record» n }
     {
         if record.passes_check() {
-            AscendingList { inner: record }
+            AscendingList { record }
         } else {
             AscendingList::empty()
         }
     }
 
-    /// The record of the list, which passes the check.
-    pub fn to_record(self) -> ListRecord
-        ensures inner { result ≡ self.inner }
-        ensures passes { IsTrue (passes result) }
-    {
-        self.inner
-    }
-
     /// The members in order.
     pub fn as_slice(&self) -> &[u8]
-        ensures { result.now ≡ listed self.now.inner }
+        ensures { result.now ≡ listed self.now.record }
     {
-        &self.inner.items[..usize::from(self.inner.len)]
+        &self.record.items[..usize::from(self.record.len)]
     }
 
     /// The least member not below `from`, if there is one. By halving.
     pub fn next_from(&self, from: u16) -> Option<u16>
-        ensures { NextFrom (members self.now.inner) from result }
+        ensures { NextFrom (members self.now.record) from result }
     {
         let list = self.as_slice();
         let at = list.partition_point(|x| u16::from(*x) < from);
@@ -65,21 +57,21 @@ impl AscendingList {
 
     /// Whether `n` is a member.
     pub fn contains(&self, n: u16) -> bool
-        ensures { result ≡ members self.now.inner n }
+        ensures { result ≡ members self.now.record n }
     {
         self.next_from(n) == Some(n)
     }
 
     /// The number of members.
     pub fn count(&self) -> u16
-        ensures { result ≡ size 64 (members self.now.inner) }
+        ensures { result ≡ size 64 (members self.now.record) }
     {
-        u16::from(self.inner.len)
+        u16::from(self.record.len)
     }
 
     /// Whether both have the same members: then they have the same items.
     pub fn same(&self, other: &AscendingList) -> bool
-        ensures { IsTrue result ↔ SameMembers (members self.now.inner) (members other.now.inner) }
+        ensures { IsTrue result ↔ SameMembers (members self.now.record) (members other.now.record) }
     {
         self.as_slice() == other.as_slice()
     }
@@ -87,13 +79,13 @@ impl AscendingList {
     /// The list with `n`, which is above its members, at its end.
     fn appended(self, n: u8) -> AscendingList
         requires small { n < 64 }
-        requires above { (k : ℕ) → members self.inner k ≡ true → k < n }
-        ensures { (k : ℕ) → members result.inner k ≡ (members self.inner k || k == n) }
+        requires above { (k : ℕ) → members self.record k ≡ true → k < n }
+        ensures { (k : ℕ) → members result.record k ≡ (members self.record k || k == n) }
     {
-        let ListRecord { len, mut items } = self.inner;
+        let ListRecord { len, mut items } = self.record;
         items[usize::from(len)] = n;
         AscendingList {
-            inner: ListRecord {
+            record: ListRecord {
                 len: len + 1,
                 items,
             },
@@ -102,7 +94,7 @@ impl AscendingList {
 
     /// All members of both: the least of what is left of the two, again and again.
     pub fn union(&self, other: &AscendingList) -> AscendingList
-        ensures { (k : ℕ) → members result.inner k ≡ (members self.now.inner k || members other.now.inner k) }
+        ensures { (k : ℕ) → members result.record k ≡ (members self.now.record k || members other.now.record k) }
     {
         let mut out = AscendingList::empty();
         let mut from = 0;
@@ -115,13 +107,21 @@ impl AscendingList {
 
     /// The list with `n`, if that is below 64.
     pub fn with(self, n: u16) -> AscendingList
-        ensures { (k : ℕ) → members result.inner k ≡ with_member 64 n (members self.inner) k }
+        ensures { (k : ℕ) → members result.record k ≡ with_member 64 n (members self.record) k }
     {
         if n >= 64 {
             return self;
         }
         let one = AscendingList::empty().appended(n as u8);
         self.union(&one)
+    }
+}
+
+impl From<AscendingList> for ListRecord {
+    ghost from_gives = { λ list result. result ≡ list.record };
+
+    fn from(list: AscendingList) -> ListRecord {
+        list.record
     }
 }
 

@@ -7,9 +7,8 @@ ghost use Rattle.std.proofs.Common.{rules};
 use crate::four_words;
 use crate::small_set::SmallSet;
 
-/// A set of numbers below 256, quick by operations on whole words. Each set has one row, so `==` tells whether two
-/// rows have the same members.
-#[derive(Clone, Copy, Debug, PartialEq, Eq)]
+/// A set of numbers below 256, quick by operations on whole words.
+#[derive(Clone, Copy)]
 pub struct BitRow {
     words: [u64; 4],
 }

@@ -57,7 +57,7 @@ impl SmallSet for ListRecord {
         ensures members { (n : ℕ) → members result n ≡ false }
         ensures passes { IsTrue (passes result) }
     {
-        AscendingList::empty().to_record()
+        AscendingList::empty().into()
     }
 
     fn insert(&mut self, n: u16) -> bool
@@ -67,7 +67,7 @@ impl SmallSet for ListRecord {
     {
         let list = AscendingList::of_record(*self);
         let grows = n < Self::W && !list.contains(n);
-        *self = list.with(n).to_record();
+        *self = list.with(n).into();
         grows
     }
 
@@ -81,7 +81,7 @@ impl SmallSet for ListRecord {
     {
         let a = AscendingList::of_record(*self);
         let b = AscendingList::of_record(*other);
-        a.union(&b).to_record()
+        a.union(&b).into()
     }
 
     fn same(&self, other: &ListRecord) -> bool {

@@ -5,7 +5,7 @@ use Rattle.sets.proofs.ascending_list.AscendingList.union.Given as goal
 abbrev pub invariant-loop-n : goal.invariant-loop-n
 invariant-loop-n l =
     (l.from ≤ 64)
-    × ((k : ℕ) → members l.out.inner k ≡ (ltb k l.from && (members l.self.inner k || members l.other.inner k)))
+    × ((k : ℕ) → members l.out.record k ≡ (ltb k l.from && (members l.self.record k || members l.other.record k)))
 
 abbrev pub decreases-loop-n : goal.decreases-loop-n
 decreases-loop-n l = 64 - l.from
