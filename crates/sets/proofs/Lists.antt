@@ -1,5 +1,5 @@
 -- What is true of lists of ascending numbers, and of the records that list them. Assumes nothing.
-use Rattle.std.proofs.Common.{◌≡◌, ℕ, zero, suc, ◌+◌, ◌<◌, ◌≤◌, Bool, true, false, ◌&&◌, ◌||◌, ◌⊎◌, ltb, eqb, List, [], ◌∷◌, ◌++◌, length, get_or, set, take, Option, Some, None, min, refl, subst, sym, ap, ap₂, ◌∙◌, inl, inr, ⊎_elim, add-one, arith}
+use Rattle.std.proofs.Common.{◌≡◌, ℕ, zero, suc, ◌+◌, ◌<◌, ◌≤◌, Bool, true, false, ◌&&◌, ◌||◌, ◌⊎◌, ltb, eqb, List, [], ◌∷◌, ◌++◌, length, get_or, set, take, replicate, Option, Some, None, min, refl, subst, sym, ap, ap₂, ◌∙◌, inl, inr, ⊎_elim, add-one, arith}
 use Rattle.std.specs.Prelude.{IsTrue, ◌↔◌, nat_eq}
 use lib.Pointwise.{pointwise}
 use Rattle.std.specs.Cmp.Lexicographic.{told_text}
@@ -136,6 +136,11 @@ module _ (r : ListRecord) where
   unfolding passes
   fails_long h = and_left _ _ (lt-leb _ _ h)
 
+pub zeros : (n i : ℕ) → get_or {A = ℕ} (replicate n 0) i 0 ≡ 0
+zeros zero i = refl
+zeros (suc n) zero = refl
+zeros (suc n) (suc i) = zeros n i
+
 -- ---- one more at the end
 
 module _ (r : ListRecord) (n : ℕ) (h : IsTrue (passes r)) (whole : length r.items ≡ 64) (small : n < 64) (above : (k : ℕ) → members r k ≡ true → k < n) where
@@ -227,9 +232,11 @@ passes_ascends r whole = (
       let a = ascending r h in
       let fits = len_fits r h in
       let long = length-take-le r.len r.items (omega arith) in
-      let at : (i : ℕ) → i < r.len → get_or (listed r) i 0 ≡ get_or r.items i 0 = λ i l. get_or-take r.len r.items i 0 l in
-      (fits, (λ i l. let b = at_least 0 (listed r) a i 0 (omega arith) in let e = at i l in omega arith),
-      (λ i l. let b = rises 0 (listed r) a i (i + 1) 0 (omega arith) (omega arith) in let e = at i (omega arith) in let f = at (i + 1) l in omega arith))),
+      let at : (i : ℕ) → i < r.len → get_or (listed r) i 0 ≡ get_or r.items i 0 = λ i l. get_or-take r.len r.items i 0 l in (
+        fits,
+        (λ i l. let b = at_least 0 (listed r) a i 0 (omega arith) in let e = at i l in omega arith),
+        (λ i l. let b = rises 0 (listed r) a i (i + 1) 0 (omega arith) (omega arith) in let e = at i (omega arith) in let f = at (i + 1) l in omega arith),
+      )),
   (λ h.
       let long = length-take-le r.len r.items (omega (arith, h.0)) in
       let at : (i : ℕ) → i < r.len → get_or (listed r) i 0 ≡ get_or r.items i 0 = λ i l. get_or-take r.len r.items i 0 l in

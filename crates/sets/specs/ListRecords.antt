@@ -1,5 +1,5 @@
 -- What a list record means. Assumes nothing.
-use Rattle.std.specs.Prelude.{ℕ, ◌+◌, ◌<◌, ◌≤◌, Bool, ◌&&◌, List, nat_le, take, slice_index}
+use Rattle.std.specs.Prelude.{◌≡◌, ℕ, ◌+◌, ◌<◌, ◌≤◌, Bool, ◌&&◌, List, nat_le, take, slice_index}
 use Rattle.sets.specs.declared.list_record.ListRecord.{ListRecord}
 use Rattle.sets.specs.Ascending.{ascend_from, among}
 
@@ -18,3 +18,7 @@ Ascends r = (r.len ≤ 64) × ((i : ℕ) → i < r.len → slice_index r.items i
 -- whether n is a member: the numbers listed are the members of a record that passes the check, and any other has none
 unfoldable pub members : ListRecord → ℕ → Bool
 members r n = passes r && among (listed r) n
+
+-- the items that are not used are 0
+abbrev pub RestIsZero : ListRecord → Type 0
+RestIsZero r = (i : ℕ) → r.len ≤ i → slice_index r.items i ≡ 0

@@ -3,7 +3,7 @@
 
 ghost use Rattle.std.specs.Prelude.{◌≡◌, ℕ, ◌<◌, true, false, ◌||◌, ◌==◌, ◌↔◌, IsTrue};
 ghost use Rattle.sets.specs.Members.{size, with_member, SameMembers, NextFrom, lesser_of};
-ghost use Rattle.sets.specs.ListRecords.{listed, passes, members};
+ghost use Rattle.sets.specs.ListRecords.{listed, passes, members, RestIsZero};
 
 use crate::list_record::ListRecord;
 
@@ -17,7 +17,8 @@ pub struct AscendingList {
 impl AscendingList {
     /// The list without members.
     pub fn empty() -> AscendingList
-        ensures { (n : ℕ) → members result.record n ≡ false }
+        ensures members { (n : ℕ) → members result.record n ≡ false }
+        ensures rest { RestIsZero result.record }
     {
         AscendingList {
             record: ListRecord {
@@ -80,7 +81,8 @@ impl AscendingList {
     fn appended(self, n: u8) -> AscendingList
         requires small { n < 64 }
         requires above { (k : ℕ) → members self.record k ≡ true → k < n }
-        ensures { (k : ℕ) → members result.record k ≡ (members self.record k || k == n) }
+        ensures members { (k : ℕ) → members result.record k ≡ (members self.record k || k == n) }
+        ensures rest { RestIsZero self.record → RestIsZero result.record }
     {
         let ListRecord { len, mut items } = self.record;
         items[usize::from(len)] = n;
@@ -94,7 +96,8 @@ impl AscendingList {
 
     /// All members of both: the least of what is left of the two, again and again.
     pub fn union(&self, other: &AscendingList) -> AscendingList
-        ensures { (k : ℕ) → members result.record k ≡ (members self.now.record k || members other.now.record k) }
+        ensures members { (k : ℕ) → members result.record k ≡ (members self.now.record k || members other.now.record k) }
+        ensures rest { RestIsZero result.record }
     {
         let mut out = AscendingList::empty();
         let mut from = 0;
@@ -107,12 +110,13 @@ impl AscendingList {
 
     /// The list with `n`, if that is below 64.
     pub fn with(self, n: u16) -> AscendingList
-        ensures { (k : ℕ) → members result.record k ≡ with_member 64 n (members self.record) k }
+        ensures members { (k : ℕ) → members result.record k ≡ with_member 64 n (members self.record) k }
+        ensures rest { RestIsZero result.record }
     {
-        if n >= 64 {
-            return self;
+        let mut one = AscendingList::empty();
+        if n < 64 {
+            one = one.appended(n as u8);
         }
-        let one = AscendingList::empty().appended(n as u8);
         self.union(&one)
     }
 }

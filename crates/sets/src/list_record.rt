@@ -3,7 +3,7 @@
 ghost use Rattle.std.specs.Prelude.{◌≡◌, ℕ, true, false, not, ◌&&◌, ◌||◌, ◌↔◌, IsTrue, nat_lt};
 ghost use Rattle.sets.specs.Members.{with_member};
 ghost use Rattle.sets.specs.Ascending.{ascend_from};
-ghost use Rattle.sets.specs.ListRecords.{passes, members, Ascends};
+ghost use Rattle.sets.specs.ListRecords.{passes, members, Ascends, RestIsZero};
 ghost use Rattle.sets.specs.ListRecordsLemmas.{members_below, record_of, record_of_lem};
 ghost use Rattle.std.proofs.Common.{rules};
 
@@ -39,7 +39,8 @@ fn ascends(numbers: &[u8]) -> bool
     numbers.iter().all(|x| *x < 64) && numbers.is_sorted_by(|a, b| a < b)
 }
 
-// Where a method has clauses of its own, they repeat the trait's and add that what is written passes the check.
+// Where a method has clauses of its own, they repeat the trait's and add that what is written passes the check and
+// holds 0 in the items that are not used.
 impl SmallSet for ListRecord {
     const W: u16 = 64;
 
@@ -56,6 +57,7 @@ impl SmallSet for ListRecord {
     fn empty() -> ListRecord
         ensures members { (n : ℕ) → members result n ≡ false }
         ensures passes { IsTrue (passes result) }
+        ensures rest { RestIsZero result }
     {
         AscendingList::empty().into()
     }
@@ -64,6 +66,7 @@ impl SmallSet for ListRecord {
         ensures members { (k : ℕ) → members self.new k ≡ with_member 64 n (members self.old) k }
         ensures grew { result ≡ (nat_lt n 64 && not (members self.old n)) }
         ensures passes { IsTrue (passes self.new) }
+        ensures rest { RestIsZero self.new }
     {
         let list = AscendingList::of_record(*self);
         let grows = n < Self::W && !list.contains(n);
@@ -78,6 +81,7 @@ impl SmallSet for ListRecord {
     fn union(&self, other: &ListRecord) -> ListRecord
         ensures members { (n : ℕ) → members result n ≡ (members self.now n || members other.now n) }
         ensures passes { IsTrue (passes result) }
+        ensures rest { RestIsZero result }
     {
         let a = AscendingList::of_record(*self);
         let b = AscendingList::of_record(*other);

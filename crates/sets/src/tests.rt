@@ -1,5 +1,6 @@
 //! Examples at the edges of both kinds.
 
+use crate::ascending_list::AscendingList;
 use crate::bit_row::BitRow;
 use crate::list_record::ListRecord;
 use crate::small_set::SmallSet;
@@ -89,4 +90,21 @@ fn broken_records(rt: HostRuntime) {
     };
     assert!(rt; once.passes_check());
     assert_eq!(rt; once.next_from(0), Some(5));
+}
+
+/// What is written holds 0 in the items that are not used, also where nothing is added.
+#[test]
+fn unused_items(rt: HostRuntime) {
+    let once = ListRecord {
+        len: 1,
+        items: [5; 64],
+    };
+    let mut two = once;
+    assert!(rt; two.insert(9));
+    assert!(rt; AscendingList::of_record(two).as_slice() == [5, 9].as_slice());
+    assert!(rt; two.items.iter().skip(2).all(|x| *x == 0));
+    let mut one = once;
+    assert!(rt; !one.insert(64));
+    assert!(rt; one.len == 1 && one.items.iter().skip(1).all(|x| *x == 0));
+    assert!(rt; once.union(&once).items.iter().skip(1).all(|x| *x == 0));
 }

@@ -11,5 +11,5 @@ overflow_add-result c = omega (arith, push_room c.args.self.record c.args.n c.ar
 pub invariant_of-result : goal.invariant_of-result
 invariant_of-result c = rw c.from.ensures record { ascends = push_passes c.args.self.record c.args.n c.args.self.ascends (omega arith) c.requires.small c.requires.above }
 
-pub returns : goal.returns
-returns c = rw c.from.ensures (push_members c.args.self.record c.args.n c.args.self.ascends (omega arith) c.requires.small c.requires.above)
+pub returns-clause-members : goal.returns-clause-members
+returns-clause-members c = rw c.from.ensures (push_members c.args.self.record c.args.n c.args.self.ascends (omega arith) c.requires.small c.requires.above)

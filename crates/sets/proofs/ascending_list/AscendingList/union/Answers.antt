@@ -25,4 +25,8 @@ loop-n-smaller c =
 pub loop-n-preserved : goal.loop-n-preserved
 loop-n-preserved c =
     let next = next_either c.args.self.now.record c.args.other.now.record c.loop-n.from c.in-Some.n _ _ _ c.next_from.ensures c.next_from-in-loop-n.ensures c.lesser.ensures c.in-Some.is in
-    (omega arith, merge_step _ (members c.loop-n.out.record) (members c.appended-out.result.record) c.loop-n.from c.in-Some.n next.1 c.loop-n.invariant.1 c.appended-out.ensures)
+    record {
+      within = omega arith;
+      merged = merge_step _ (members c.loop-n.out.record) (members c.appended-out.result.record) c.loop-n.from c.in-Some.n next.1 c.loop-n.invariant.merged c.appended-out.ensures.members;
+      rest = c.appended-out.ensures.rest c.loop-n.invariant.rest;
+    }
