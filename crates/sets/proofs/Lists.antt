@@ -10,7 +10,7 @@ use Rattle.std.proofs.lemmas.List.{get_or-take, get_or_read, length-take-le, len
 use Rattle.std.proofs.lemmas.List.Folds.{list_any_at, list_any_none}
 use Rattle.std.proofs.lemmas.Bool.{false≢true, lt-ltb, ltb-true, ltb-false, le-leb, lt-leb, leb-true, eq-eqb, ne_eqb, eqb-true, both_ways, cases_eq, cases_lt, cases_Bool, and_parts, and_from, and_left, or_left, or_right, or_from, or_cases}
 use Rattle.std.proofs.lemmas.Bool.Decides.{nat_tests}
-use Rattle.sets.specs.Members.{one, size, SameMembers, NextFrom, lesser_of}
+use Rattle.sets.specs.Members.{one, size, SameMembers, NextFrom}
 use Rattle.sets.specs.Sizes.{size_alike}
 use Rattle.sets.specs.declared.list_record.ListRecord.{ListRecord}
 use Rattle.sets.specs.Ascending.{ascend_from, among}
@@ -250,28 +250,6 @@ pub check_ascends : (r : ListRecord) (b : Bool) → length r.items ≡ 64 → b 
 check_ascends r b whole is = subst (λ (x : Bool). IsTrue x ↔ Ascends r) (sym is) (passes_ascends r whole)
 
 -- ---- a merge
-
--- the next member of either of two sets
-next_lesser : (p q : ℕ → Bool) (from : ℕ) (a b : Option ℕ) → NextFrom p from a → NextFrom q from b → NextFrom (λ k. p k || q k) from (lesser_of a b)
-next_lesser p q from None None f g = λ k l. or_from _ _ (f k l) (g k l)
-next_lesser p q from (Some a) None f g = (f.0, or_left _ _ f.1, λ k l h. or_from _ _ (f.2 k l h) (g k l))
-next_lesser p q from None (Some b) f g = (g.0, or_right _ _ g.1, λ k l h. or_from _ _ (f k l) (g.2 k l h))
-next_lesser p q from (Some a) (Some b) f g = (
-  omega (arith, f.0, g.0),
-  ⊎_elim
-      (λ (e : a < b). let is : min a b ≡ a = omega arith in rw is (or_left _ _ f.1))
-      (λ (e : b ≤ a). let is : min a b ≡ b = omega arith in rw is (or_right _ _ g.1))
-      (cases_lt a b),
-  λ k l h. or_from _ _ (f.2 k l (omega arith)) (g.2 k l (omega arith)),
-)
-
-pub next_either : (r s : ListRecord) (from n : ℕ) (a b o : Option ℕ) → NextFrom (members r) from a → NextFrom (members s) from b → o ≡ lesser_of a b → o ≡ Some n
-    → (n < 64) × NextFrom (λ k. members r k || members s k) from (Some n)
-next_either r s from n a b o f g is found =
-    let next = subst (λ (x : Option ℕ). NextFrom (λ k. members r k || members s k) from x) (sym is ∙ found) (next_lesser (members r) (members s) from a b f g) in (
-      ⊎_elim (λ (e : members r n ≡ true). members_below r n e) (λ (e : members s n ≡ true). members_below s n e) (or_cases _ _ next.1),
-      next,
-    )
 
 -- r has the members of u below from, and t has one more, the next
 pub merge_step : (u r t : ℕ → Bool) (from n : ℕ) → NextFrom u from (Some n) → ((k : ℕ) → r k ≡ (ltb k from && u k)) → ((k : ℕ) → t k ≡ (r k || eqb k n)) → (k : ℕ) → t k ≡ (ltb k (n + 1) && u k)

@@ -1,5 +1,5 @@
 -- Sets of numbers as tests: n is a member of p where p n is true. Assumes nothing.
-use Rattle.std.specs.Prelude.{◌≡◌, ℕ, zero, suc, ◌+◌, ◌<◌, ◌≤◌, Bool, true, false, ◌&&◌, ◌||◌, Option, Some, None, MatchOption, ◌==◌, nat_lt, min}
+use Rattle.std.specs.Prelude.{◌≡◌, ℕ, zero, suc, ◌+◌, ◌<◌, ◌≤◌, Bool, true, false, ◌&&◌, ◌||◌, Option, MatchOption, ◌==◌, nat_lt}
 
 -- a test as a number: 1 where it is true
 abbrev pub one : Bool → ℕ
@@ -25,9 +25,3 @@ NextFrom p from r =
     MatchOption r
     ((n : ℕ) → from ≤ n → p n ≡ false)
     (λ m. (from ≤ m) × (p m ≡ true) × ((n : ℕ) → from ≤ n → n < m → p n ≡ false))
-
--- the lesser of two numbers, where one may be absent
-abbrev pub lesser_of : Option ℕ → Option ℕ → Option ℕ
-lesser_of (Some a) (Some b) = Some (min a b)
-lesser_of (Some a) None = Some a
-lesser_of None b = b

@@ -1,8 +1,8 @@
 //! A list of numbers below 64 in strictly ascending order. Its type carries the order and the bound, so no list ever
 //! holds a member twice or out of order; a list is changed by value and written whole.
 
-ghost use Rattle.std.specs.Prelude.{◌≡◌, ℕ, ◌<◌, true, false, ◌||◌, ◌==◌, ◌↔◌, IsTrue};
-ghost use Rattle.sets.specs.Members.{size, with_member, SameMembers, NextFrom, lesser_of};
+ghost use Rattle.std.specs.Prelude.{◌≡◌, ℕ, ◌<◌, true, false, ◌||◌, ◌==◌, ◌↔◌, IsTrue, IfSome};
+ghost use Rattle.sets.specs.Members.{size, with_member, SameMembers, NextFrom};
 ghost use Rattle.sets.specs.ListRecords.{listed, passes, members, RestIsZero};
 
 use crate::list_record::ListRecord;
@@ -29,11 +29,11 @@ impl AscendingList {
     }
 
     /// The list of a record that passes the check, and else the empty list.
-    pub fn of_record(record: ListRecord) -> AscendingList
-        ensures { (n : ℕ) → members result.record n ≡ members «record» n }
+    pub fn of_record(plain: ListRecord) -> AscendingList
+        ensures { (n : ℕ) → members result.record n ≡ members plain n }
     {
-        if record.passes_check() {
-            AscendingList { record }
+        if plain.passes_check() {
+            AscendingList { record: plain }
         } else {
             AscendingList::empty()
         }
@@ -48,7 +48,8 @@ impl AscendingList {
 
     /// The least member not below `from`, if there is one. By halving.
     pub fn next_from(&self, from: u16) -> Option<u16>
-        ensures { NextFrom (members self.now.record) from result }
+        ensures next { NextFrom (members self.now.record) from result }
+        ensures small { IfSome result (λ n. n < 64) }
     {
         let list = self.as_slice();
         let at = list.partition_point(|x| u16::from(*x) < from);
@@ -94,6 +95,18 @@ impl AscendingList {
         }
     }
 
+    /// The least member of either list that is not below `from`, if there is one.
+    fn next_of_either(&self, other: &AscendingList, from: u16) -> Option<u16>
+        ensures next { NextFrom (λ n. members self.now.record n || members other.now.record n) from result }
+        ensures small { IfSome result (λ n. n < 64) }
+    {
+        match (self.next_from(from), other.next_from(from)) {
+            (Some(a), Some(b)) => Some(a.min(b)),
+            (Some(n), None) | (None, Some(n)) => Some(n),
+            (None, None) => None,
+        }
+    }
+
     /// All members of both: the least of what is left of the two, again and again.
     pub fn union(&self, other: &AscendingList) -> AscendingList
         ensures members { (k : ℕ) → members result.record k ≡ (members self.now.record k || members other.now.record k) }
@@ -101,7 +114,7 @@ impl AscendingList {
     {
         let mut out = AscendingList::empty();
         let mut from = 0;
-        while let Some(n) = lesser(self.next_from(from), other.next_from(from)) {
+        while let Some(n) = self.next_of_either(other, from) {
             out = out.appended(n as u8);
             from = n + 1;
         }
@@ -126,15 +139,5 @@ impl From<AscendingList> for ListRecord {
 
     fn from(list: AscendingList) -> ListRecord {
         list.record
-    }
-}
-
-/// The lesser of two numbers, where one may be absent.
-fn lesser(a: Option<u16>, b: Option<u16>) -> Option<u16>
-    ensures { result ≡ lesser_of a b }
-{
-    match (a, b) {
-        (Some(a), Some(b)) => Some(a.min(b)),
-        _ => a.or(b),
     }
 }
