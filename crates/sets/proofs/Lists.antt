@@ -107,34 +107,15 @@ rises_over least (x ∷ xs) small up low =
 
 -- ---- records
 
-module _ (r : ListRecord) where
-  pub len_fits : IsTrue (passes r) → r.len ≤ 64
-  unfolding passes
-  len_fits h = leb-true _ _ (and_parts _ _ h).0
+module _ (r : ListRecord) (h : IsTrue (passes r)) where
+  pub len_fits : r.len ≤ 64
+  len_fits = leb-true _ _ (and_parts _ _ h).0
 
-  pub ascending : IsTrue (passes r) → ascend_from 0 (listed r) ≡ true
-  unfolding passes
-  ascending h = (and_parts _ _ h).1
+  pub ascending : ascend_from 0 (listed r) ≡ true
+  ascending = (and_parts _ _ h).1
 
-  pub passing : r.len ≤ 64 → ascend_from 0 (listed r) ≡ true → IsTrue (passes r)
-  unfolding passes
-  passing l h = and_from _ _ (le-leb _ _ l) h
-
-  pub members_are : IsTrue (passes r) → (n : ℕ) → members r n ≡ among (listed r) n
-  unfolding members
-  members_are h n = rw h
-
-  pub no_members : passes r ≡ false → (n : ℕ) → members r n ≡ false
-  unfolding members
-  no_members h n = rw h
-
-  pub passes_short : r.len ≤ 64 → passes r ≡ ascend_from 0 (listed r)
-  unfolding passes
-  passes_short h = let short = le-leb _ _ h in rw short
-
-  pub fails_long : 64 < r.len → passes r ≡ false
-  unfolding passes
-  fails_long h = and_left _ _ (lt-leb _ _ h)
+  members_are : (n : ℕ) → members r n ≡ among (listed r) n
+  members_are n = rw h
 
 pub zeros : (n i : ℕ) → get_or {A = ℕ} (replicate n 0) i 0 ≡ 0
 zeros zero i = refl
@@ -154,14 +135,7 @@ module _ (r : ListRecord) (n : ℕ) (h : IsTrue (passes r)) (whole : length r.it
       omega (arith, length-append (listed r) (n ∷ []))
 
   pub push_passes : IsTrue (passes record { len = r.len + 1; items = set r.items r.len n })
-  push_passes = passing _ (omega (arith, push_room)) (ap (ascend_from 0) (take_more_set r.items r.len n (omega (arith, push_room))) ∙ pushed)
-
-  pub push_members : (k : ℕ) → members record { len = r.len + 1; items = set r.items r.len n } k ≡ (members r k || eqb k n)
-  push_members k =
-      members_are _ push_passes k
-      ∙ ap (λ (xs : List ℕ). among xs k) (take_more_set r.items r.len n (omega (arith, push_room)))
-      ∙ among_push (listed r) n k
-      ∙ ap (λ (b : Bool). b || eqb k n) (sym (members_are r h k))
+  push_passes = and_from _ _ (le-leb _ _ (omega (arith, push_room))) (ap (ascend_from 0) (take_more_set r.items r.len n (omega (arith, push_room))) ∙ pushed)
 
 -- ---- the number of members, and records with the same
 
@@ -240,7 +214,7 @@ passes_ascends r whole = (
   (λ h.
       let long = length-take-le r.len r.items (omega (arith, h.0)) in
       let at : (i : ℕ) → i < r.len → get_or (listed r) i 0 ≡ get_or r.items i 0 = λ i l. get_or-take r.len r.items i 0 l in
-      passing r h.0 (rises_over 0 (listed r)
+      and_from _ _ (le-leb _ _ h.0) (rises_over 0 (listed r)
       (λ i l. let b = h.1 i (omega arith) in let e = at i (omega arith) in omega arith)
       (λ i l. let b = h.2 i (omega arith) in let e = at i (omega arith) in let f = at (suc i) (omega arith) in let g = ap (λ (k : ℕ). get_or r.items k 0) (add-one i) in omega arith)
       (λ _. omega arith))),

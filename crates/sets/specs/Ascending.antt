@@ -3,7 +3,7 @@ use Rattle.std.specs.Prelude.{ℕ, ◌+◌, Bool, true, ◌&&◌, List, [], ◌�
 use Rattle.std.specs.List.{list_any}
 
 -- whether each number is below 64, at least `least`, and above the number before it
-unfoldable pub ascend_from : ℕ → List ℕ → Bool
+abbrev pub ascend_from : ℕ → List ℕ → Bool
 ascend_from least [] = true
 ascend_from least (x ∷ xs) = (nat_le least x && nat_lt x 64) && ascend_from (x + 1) xs
 
