@@ -8,7 +8,7 @@ use Rattle.std.specs.Cmp.Lexicographic.{told_text}
 use lib.Count.{ones}
 use Rattle.std.specs.Int.{bit_at, trailing_zeros, w64}
 use Rattle.std.specs.List.{position, position_or_len, sum_by}
-use Rattle.std.proofs.lemmas.List.{get_or-replicate, get_or-set_same, get_or-set_other, get_or-drop, length-drop, get_or_read, take_rest, ext_get_or}
+use Rattle.std.proofs.lemmas.List.{get_or-set_same, get_or-set_other, get_or-drop, length-drop, get_or_read, take_rest, ext_get_or}
 use Rattle.std.proofs.lemmas.List.Quantifiers.{position-Some}
 use Rattle.std.proofs.lemmas.List.Sums.{fails_before_first}
 use Rattle.std.proofs.lemmas.Bool.{cases_lt, cases_eq, both_ways, lt-ltb, eqb-true, ltb-true, not-false, false≢true}
@@ -28,12 +28,6 @@ row_at ws i j p q = row_in ws (i * 64 + j) (omega arith) ∙ ap₂ (λ (x y : �
 -- no member in a word of 0
 row_zero : (ws : List ℕ) (n : ℕ) → n < 256 → get_or ws (n / 64) 0 ≡ 0 → in_row ws n ≡ false
 row_zero ws n h z = row_in ws n h ∙ ap (λ w. eqb (bit_at w (n % 64)) 1) z ∙ ap (λ b. eqb b 1) (bit_at-zero (n % 64))
-
-pub row_none : (n : ℕ) → in_row (0 ∷ 0 ∷ 0 ∷ 0 ∷ []) n ≡ false
-row_none n = ⊎_elim
-    (λ (l : n < 256). row_zero _ n l (get_or-replicate 4 (n / 64) 0 0 (omega arith)))
-    (λ (l : 256 ≤ n). row_out _ n l)
-    (cases_lt n 256)
 
 either_bit : (a b : ℕ) → a < 2 → b < 2 → eqb (max a b) 1 ≡ (eqb a 1 || eqb b 1)
 either_bit a b p q = grind (arith, nat_tests)

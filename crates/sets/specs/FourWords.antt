@@ -3,5 +3,5 @@ use Rattle.std.specs.Prelude.{ℕ, ◌/◌, ◌%◌, Bool, ◌&&◌, List, ◌==
 use Rattle.std.specs.Int.{bit_at}
 
 -- whether n is in the row: bit n % 64 of word n / 64 is set
-unfoldable pub in_row : List ℕ → ℕ → Bool
+abbrev pub in_row : List ℕ → ℕ → Bool
 in_row words n = nat_lt n 256 && bit_at (slice_index words (n / 64)) (n % 64) == 1

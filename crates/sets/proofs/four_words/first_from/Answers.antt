@@ -1,13 +1,6 @@
 use Rattle.std.proofs.Common.{sym, ◌∙◌, arith}
-use Rattle.std.proofs.lemmas.Bool.{ltb-false}
-use Rattle.sets.specs.FourWordsLemmas.{row_out}
 use Rattle.sets.proofs.Rows.{start_at, next_in_word, next_in_later_word, next_in_no_word}
 use Rattle.sets.proofs.four_words.first_from.Goals as goal
-
-pub returns-in_err-rest : goal.returns-in_err-rest
-returns-in_err-rest c =
-    let short = ltb-false _ _ (sym c.in_err-rest.ensures.lookup.0) in
-    rw c.from_residual.ensures (λ n h. row_out c.args.words.now n (omega arith))
 
 pub returns-then-rest-ne0 : goal.returns-then-rest-ne0
 returns-then-rest-ne0 c =
