@@ -1,21 +1,21 @@
 -- What is true of lists of ascending numbers, and of the records that list them. Assumes nothing.
-use Rattle.std.proofs.Common.{◌≡◌, ℕ, zero, suc, ◌+◌, ◌<◌, ◌≤◌, Bool, true, false, ◌&&◌, ◌||◌, ◌⊎◌, ltb, eqb, List, [], ◌∷◌, ◌++◌, length, get_or, set, take, replicate, Option, Some, None, min, refl, subst, sym, ap, ap₂, ◌∙◌, inl, inr, ⊎_elim, add-one, arith}
+use Rattle.std.proofs.Common.{◌≡◌, ℕ, zero, suc, ◌+◌, ◌<◌, ◌≤◌, Bool, true, false, ◌&&◌, ◌||◌, ◌⊎◌, ltb, eqb, List, [], ◌∷◌, ◌++◌, length, get_or, set, replicate, Some, refl, subst, sym, ap, ap₂, ◌∙◌, inl, inr, ⊎_elim, add-one, arith}
 use Rattle.std.specs.Prelude.{IsTrue, ◌↔◌, nat_eq}
 use lib.Pointwise.{pointwise}
 use Rattle.std.specs.Cmp.Lexicographic.{told_text}
-use Rattle.std.specs.List.{list_any, AllWithin, IsAllAdjacentAnswer}
+use Rattle.std.specs.List.{AllWithin, IsAllAdjacentAnswer}
 use Rattle.std.specs.List.Sorted.{IsPartitionedBy, IsPartitionPoint}
 use Rattle.std.proofs.lemmas.List.Sorted.{IsPartitionedBy-ltb}
 use Rattle.std.proofs.lemmas.List.{get_or-take, get_or_read, length-take-le, length-append, take_more_set}
 use Rattle.std.proofs.lemmas.List.Folds.{list_any_at, list_any_none}
-use Rattle.std.proofs.lemmas.Bool.{false≢true, lt-ltb, ltb-true, ltb-false, le-leb, lt-leb, leb-true, eq-eqb, ne_eqb, eqb-true, both_ways, cases_eq, cases_lt, cases_Bool, and_parts, and_from, and_left, or_left, or_right, or_from, or_cases}
+use Rattle.std.proofs.lemmas.Bool.{false≢true, ltb-true, ltb-false, le-leb, leb-true, eq-eqb, ne_eqb, cases_eq, cases_lt, cases_Bool, and_parts, and_from, or_left}
 use Rattle.std.proofs.lemmas.Bool.Decides.{nat_tests}
 use Rattle.sets.specs.Members.{one, size, SameMembers, NextFrom}
 use Rattle.sets.specs.Sizes.{size_alike}
 use Rattle.sets.specs.declared.list_record.ListRecord.{ListRecord}
 use Rattle.sets.specs.Ascending.{ascend_from, among}
 use Rattle.sets.specs.ListRecords.{listed, passes, members, Ascends}
-use Rattle.sets.specs.ListRecordsLemmas.{ascend_parts, ascend_cons, ascend_nil, among_between, ascend_push, among_push, members_below}
+use Rattle.sets.specs.ListRecordsLemmas.{ascend_parts, ascend_cons, ascend_nil, among_between, ascend_push}
 
 not_among : (x n : ℕ) (xs : List ℕ) → ascend_from (x + 1) xs ≡ true → n ≤ x → among xs n ≡ false
 not_among x n xs a h = ⊎_elim

@@ -1,5 +1,5 @@
 -- What the operations on four words do to the numbers in their row. Assumes nothing.
-use Rattle.std.proofs.Common.{◌≡◌, ℕ, ◌+◌, ◌-◌, ◌*◌, ◌/◌, ◌%◌, ◌^◌, ◌<◌, ◌≤◌, max, Bool, true, false, ◌&&◌, ◌||◌, not, Some, None, ltb, eqb, List, [], ◌∷◌, length, get_or, set, drop, shr-shr, refl, sym, ap, ap₂, ◌∙◌, ⊎_elim, arith}
+use Rattle.std.proofs.Common.{◌≡◌, ℕ, ◌+◌, ◌-◌, ◌*◌, ◌/◌, ◌%◌, ◌^◌, ◌<◌, ◌≤◌, Bool, true, false, ◌||◌, not, Some, None, ltb, eqb, zero, suc, List, length, get_or, set, take, take-suc, drop, shr-shr, refl, sym, ap, ap₂, ◌∙◌, ⊎_elim, arith}
 use borrow.Rule.Slice.PartMut.{mid_of}
 use lib.Bits.{bit_or}
 use lib.Pointwise.{pointwise}
@@ -8,10 +8,10 @@ use Rattle.std.specs.Cmp.Lexicographic.{told_text}
 use lib.Count.{ones}
 use Rattle.std.specs.Int.{bit_at, trailing_zeros, w64}
 use Rattle.std.specs.List.{position, position_or_len, sum_by}
-use Rattle.std.proofs.lemmas.List.{get_or-set_same, get_or-set_other, get_or-drop, length-drop, get_or_read, take_rest, ext_get_or}
+use Rattle.std.proofs.lemmas.List.{get_or-set_same, get_or-set_other, get_or-drop, length-drop, get_or_read, take_rest, take_all, ext_get_or}
 use Rattle.std.proofs.lemmas.List.Quantifiers.{position-Some}
-use Rattle.std.proofs.lemmas.List.Sums.{fails_before_first}
-use Rattle.std.proofs.lemmas.Bool.{cases_lt, cases_eq, both_ways, lt-ltb, eqb-true, ltb-true, not-false, false≢true}
+use Rattle.std.proofs.lemmas.List.Sums.{fails_before_first, sum_by_push}
+use Rattle.std.proofs.lemmas.Bool.{cases_lt, cases_eq, lt-ltb, eqb-true, ltb-true, not-false, false≢true}
 use Rattle.std.proofs.lemmas.Bool.Decides.{nat_tests}
 use Rattle.std.proofs.lemmas.Nat.{div-mul-add, mod-mul-add}
 use Rattle.std.proofs.lemmas.Nat.Bits.{bit_at-zero, bit_at-lt, bit_at_or, bit_at_set_same, bit_at_set_other, bit_at-trailing_zeros, bit_at_above, same_from_bits_below}
@@ -29,19 +29,13 @@ row_at ws i j p q = row_in ws (i * 64 + j) (omega arith) ∙ ap₂ (λ (x y : �
 row_zero : (ws : List ℕ) (n : ℕ) → n < 256 → get_or ws (n / 64) 0 ≡ 0 → in_row ws n ≡ false
 row_zero ws n h z = row_in ws n h ∙ ap (λ w. eqb (bit_at w (n % 64)) 1) z ∙ ap (λ b. eqb b 1) (bit_at-zero (n % 64))
 
-either_bit : (a b : ℕ) → a < 2 → b < 2 → eqb (max a b) 1 ≡ (eqb a 1 || eqb b 1)
-either_bit a b p q = grind (arith, nat_tests)
-
 pub row_either : (us vs ws : List ℕ) → ((q : ℕ) → q < 4 → get_or ws q 0 ≡ bit_or (get_or us q 0) (get_or vs q 0)) → (n : ℕ) → in_row ws n ≡ (in_row us n || in_row vs n)
-row_either us vs ws h n = ⊎_elim
-    (λ (l : n < 256).
-    row_in ws n l
-    ∙ ap (λ w. eqb (bit_at w (n % 64)) 1) (h (n / 64) (omega arith))
-    ∙ ap (λ b. eqb b 1) (bit_at_or (get_or us (n / 64) 0) (get_or vs (n / 64) 0) (n % 64))
-    ∙ either_bit _ _ (bit_at-lt _ _) (bit_at-lt _ _)
-    ∙ ap₂ (λ x y. x || y) (sym (row_in us n l)) (sym (row_in vs n l)))
-    (λ (l : 256 ≤ n). row_out ws n l ∙ ap₂ (λ x y. x || y) (sym (row_out us n l)) (sym (row_out vs n l)))
-    (cases_lt n 256)
+row_either us vs ws h n =
+    let word = h (n / 64) in
+    let bit = bit_at_or (get_or us (n / 64) 0) (get_or vs (n / 64) 0) (n % 64) in
+    let left = bit_at-lt (get_or us (n / 64) 0) (n % 64) in
+    let right = bit_at-lt (get_or vs (n / 64) 0) (n % 64) in
+    grind (arith, nat_tests)
 
 -- ---- equal rows
 
@@ -64,56 +58,33 @@ row_equal us vs false m n p q is = ((λ e. absurd (false≢true e)), (λ h. absu
 pub row_with : (ws : List ℕ) (n k : ℕ) → length ws ≡ 4 → n < 256
     → in_row (set ws (n / 64) (bit_or (get_or ws (n / 64) 0) ((1 * 2 ^ (n % 64)) % 18446744073709551616))) k ≡ with_member 256 n (in_row ws) k
 row_with ws n k len h = ⊎_elim
-    (λ (l : k < 256). row_in _ k l ∙ ⊎_elim
-    (λ (e : k / 64 ≡ n / 64). ap (λ q. eqb (bit_at (get_or (set ws (n / 64) more) q 0) (k % 64)) 1) e ∙ ap (λ w. eqb (bit_at w (k % 64)) 1) (get_or-set_same ws (n / 64) more 0 (omega arith)) ∙ in_word e l)
-    (λ (e : k / 64 ≡ n / 64 → ⊥).
-    ap (λ w. eqb (bit_at w (k % 64)) 1) (get_or-set_other ws (n / 64) (k / 64) more 0 e)
-    ∙ sym (row_in ws k l)
-    ∙ other (in_row ws k) (λ (x : k ≡ n). e (ap (λ y. y / 64) x)))
-    (cases_eq (k / 64) (n / 64)))
-    (λ (l : 256 ≤ k). row_out _ k l ∙ sym (row_out ws k l) ∙ other (in_row ws k) (λ (x : k ≡ n). omega arith))
-    (cases_lt k 256)
+    (λ (e : k / 64 ≡ n / 64).
+    let word = ap (λ (q : ℕ). get_or (set ws (n / 64) more) q 0) e ∙ get_or-set_same ws (n / 64) more 0 (omega arith) in
+    let old = ap (λ (q : ℕ). get_or ws q 0) e in
+    ⊎_elim
+    (λ (x : k % 64 ≡ n % 64). let here = bit_at_set_same w64 (get_or ws (n / 64) 0) (n % 64) (omega arith) in grind (arith, nat_tests))
+    (λ (x : k % 64 ≡ n % 64 → ⊥). let there = bit_at_set_other w64 (get_or ws (n / 64) 0) (n % 64) (omega arith) (k % 64) x in grind (arith, nat_tests))
+    (cases_eq (k % 64) (n % 64)))
+    (λ (e : k / 64 ≡ n / 64 → ⊥). let word = get_or-set_other ws (n / 64) (k / 64) more 0 e in grind (arith, nat_tests))
+    (cases_eq (k / 64) (n / 64))
   where
     more : ℕ
     more = bit_or (get_or ws (n / 64) 0) ((1 * 2 ^ (n % 64)) % 18446744073709551616)
 
-    other : (b : Bool) → (k ≡ n → ⊥) → b ≡ (b || (eqb k n && ltb n 256))
-    other b x = grind (arith, nat_tests)
-
-    in_word : k / 64 ≡ n / 64 → k < 256 → eqb (bit_at more (k % 64)) 1 ≡ with_member 256 n (in_row ws) k
-    in_word e l = ⊎_elim
-        (λ (x : k ≡ n). let set_here : bit_at more (k % 64) ≡ 1 = ap (λ j. bit_at more (j % 64)) x ∙ bit_at_set_same w64 (get_or ws (n / 64) 0) (n % 64) (omega arith) in grind (arith, nat_tests))
-        (λ (x : k ≡ n → ⊥).
-        ap (λ b. eqb b 1) (bit_at_set_other w64 (get_or ws (n / 64) 0) (n % 64) (omega arith) (k % 64) (omega arith))
-        ∙ ap (λ q. eqb (bit_at (get_or ws q 0) (k % 64)) 1) (sym e)
-        ∙ sym (row_in ws k l)
-        ∙ other (in_row ws k) x)
-        (cases_eq k n)
-
 -- ---- how many
 
-row_block : (ws : List ℕ) (i : ℕ) → i < 4 → get_or ws i 0 < 2 ^ 64 → size (i * 64 + 64) (in_row ws) ≡ size (i * 64) (in_row ws) + ones (get_or ws i 0)
-row_block ws i l h =
-    size_add (i * 64) 64 (in_row ws)
-    ∙ ap (λ (n : ℕ). size (i * 64) (in_row ws) + n) (sym (size_of_bits 64 (get_or ws i 0) h ∙ size_alike 64 _ _ (λ j k. sym (row_at ws i j l k))))
-
--- four numbers in a list are the list
-four : (ws : List ℕ) → length ws ≡ 4 → ws ≡ get_or ws 0 0 ∷ get_or ws 1 0 ∷ get_or ws 2 0 ∷ get_or ws 3 0 ∷ []
-four (a ∷ b ∷ c ∷ d ∷ []) h = refl
-four [] h = absurd (omega arith)
-four (a ∷ []) h = absurd (omega arith)
-four (a ∷ b ∷ []) h = absurd (omega arith)
-four (a ∷ b ∷ c ∷ []) h = absurd (omega arith)
-four (a ∷ b ∷ c ∷ d ∷ e ∷ ws) h = absurd (omega arith)
+-- the members in the first k words
+row_count_upto : (ws : List ℕ) → length ws ≡ 4 → ((i : ℕ) → get_or ws i 0 < 2 ^ 64) → (k : ℕ) → k ≤ 4 → sum_by ones (take k ws) ≡ size (k * 64) (in_row ws)
+row_count_upto ws len fits zero h = sym (size_none (in_row ws))
+row_count_upto ws len fits (suc k) h =
+    let before = row_count_upto ws len fits k (omega arith) in
+    let word = size_of_bits 64 (get_or ws k 0) (fits k) ∙ size_alike 64 _ _ (λ j l. sym (row_at ws k j (omega arith) l)) in
+    let all = size_add (k * 64) 64 (in_row ws) in
+    let next : suc k * 64 ≡ k * 64 + 64 = omega arith in
+    rw (next, take-suc ws k 0 (omega arith)) (sum_by_push ones (take k ws) (get_or ws k 0) ∙ omega arith)
 
 pub row_count : (ws : List ℕ) → length ws ≡ 4 → ((i : ℕ) → get_or ws i 0 < 2 ^ 64) → sum_by ones ws ≡ size 256 (in_row ws)
-row_count ws len fits =
-    let a = row_block ws 0 (omega arith) (fits 0) in
-    let b = row_block ws 1 (omega arith) (fits 1) in
-    let c = row_block ws 2 (omega arith) (fits 2) in
-    let d = row_block ws 3 (omega arith) (fits 3) in
-    let none : size 0 (in_row ws) ≡ 0 = size_none (in_row ws) in
-    ap (sum_by ones) (four ws len) ∙ omega arith
+row_count ws len fits = ap (sum_by ones) (sym (take_all 4 ws (omega arith))) ∙ row_count_upto ws len fits 4 (omega arith)
 
 pub row_count_fits : (ws : List ℕ) → length ws ≡ 4 → ((i : ℕ) → get_or ws i 0 < 2 ^ 64) → sum_by ones ws < 2 ^ 16
 row_count_fits ws len fits = let is = row_count ws len fits in let most = size_le 256 (in_row ws) in omega arith

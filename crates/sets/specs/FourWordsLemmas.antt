@@ -1,5 +1,5 @@
 -- A row's members are below 256, and every set of numbers below 256 is a row: for the laws of bit rows. Assumes nothing.
-use Rattle.std.specs.Prelude.{◌≡◌, ℕ, zero, suc, ◌+◌, ◌*◌, ◌/◌, ◌%◌, ◌<◌, ◌≤◌, Bool, true, false, ◌&&◌, List, [], ◌∷◌, ◌==◌, slice_index, refl}
+use Rattle.std.specs.Prelude.{◌≡◌, ℕ, zero, suc, ◌+◌, ◌*◌, ◌/◌, ◌%◌, ◌<◌, ◌≤◌, Bool, true, false, List, [], ◌∷◌, ◌==◌, slice_index, refl}
 use Rattle.std.proofs.Common.{ap, ◌∙◌, ⊎_elim, arith}
 use Rattle.std.specs.Int.{bit_at}
 use Rattle.std.proofs.lemmas.Bool.{lt-ltb, le-ltb, cases_lt, both_ways}
@@ -8,11 +8,9 @@ use Rattle.sets.specs.Members.{one}
 use Rattle.sets.specs.FourWords.{in_row}
 
 pub row_in : (ws : List ℕ) (n : ℕ) → n < 256 → in_row ws n ≡ (bit_at (slice_index ws (n / 64)) (n % 64) == 1)
-unfolding in_row
 row_in ws n h = let below = lt-ltb n 256 h in rw below
 
 pub row_out : (ws : List ℕ) (n : ℕ) → 256 ≤ n → in_row ws n ≡ false
-unfolding in_row
 row_out ws n h = let above = le-ltb n 256 h in rw above
 
 pub row_below : (ws : List ℕ) (n : ℕ) → in_row ws n ≡ true → n < 256

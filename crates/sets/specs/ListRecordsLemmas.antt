@@ -7,20 +7,17 @@ use Rattle.std.proofs.lemmas.List.{take_at, append-nil}
 use Rattle.std.proofs.lemmas.List.Folds.{list_any-append}
 use Rattle.sets.specs.declared.list_record.ListRecord.{ListRecord}
 use Rattle.sets.specs.Ascending.{ascend_from, among}
-use Rattle.sets.specs.ListRecords.{listed, passes, members}
+use Rattle.sets.specs.ListRecords.{listed, members}
 
 -- ---- ascending numbers
 
 pub ascend_parts : (least x : ℕ) (xs : List ℕ) → ascend_from least (x ∷ xs) ≡ true → (least ≤ x) × (x < 64) × (ascend_from (x + 1) xs ≡ true)
-unfolding ascend_from
 ascend_parts least x xs h = let all = and_parts _ _ h in let first = and_parts _ _ all.0 in (leb-true _ _ first.0, ltb-true _ _ first.1, all.1)
 
 pub ascend_cons : (least x : ℕ) (xs : List ℕ) → least ≤ x → x < 64 → ascend_from (x + 1) xs ≡ true → ascend_from least (x ∷ xs) ≡ true
-unfolding ascend_from
 ascend_cons least x xs a b h = and_from _ _ (and_from _ _ (le-leb _ _ a) (lt-ltb _ _ b)) h
 
 pub ascend_nil : (least : ℕ) → ascend_from least [] ≡ true
-unfolding ascend_from
 ascend_nil least = refl
 
 pub among_between : (least : ℕ) (xs : List ℕ) (n : ℕ) → ascend_from least xs ≡ true → among xs n ≡ true → (least ≤ n) × (n < 64)
@@ -49,7 +46,6 @@ among_push xs n k = list_any-append (λ x. x == k) xs (n ∷ []) ∙ ap (λ b. a
 -- ---- records
 
 pub members_below : (r : ListRecord) (n : ℕ) → members r n ≡ true → n < 64
-unfolding members passes
 members_below r n h =
     let both = and_parts _ _ h in
     (among_between 0 (listed r) n (and_parts _ _ both.0).1 both.1).1
@@ -104,7 +100,6 @@ abbrev pub record_of : (ℕ → Bool) → ListRecord
 record_of p = record { len = length (numbers p 64); items = numbers p 64 ++ replicate (64 - length (numbers p 64)) 0 }
 
 pub record_of_lem : (p : ℕ → Bool) (n : ℕ) → n < 64 → members (record_of p) n ≡ p n
-unfolding members passes
 record_of_lem p n h =
     let ns = are_numbers p 64 (omega arith) in
     let are : listed (record_of p) ≡ numbers p 64 = take_at (numbers p 64) (replicate (64 - length (numbers p 64)) 0) (length (numbers p 64)) refl in

@@ -1,4 +1,4 @@
-use Rattle.std.proofs.Common.{◌<◌, ◌≤◌, ltb, sym, ◌∙◌, rules, tests, arith}
+use Rattle.std.proofs.Common.{◌<◌, ◌≤◌, ltb, ◌∙◌, rules, tests}
 use Rattle.std.proofs.lemmas.Bool.{MatchBool-at_true, MatchBool-at_false}
 use Rattle.std.proofs.lemmas.Iterator.{cases_from_all, YieldsList-from_slice}
 use Rattle.std.proofs.lemmas.List.Sorted.{answers_always}
