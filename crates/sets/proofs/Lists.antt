@@ -8,20 +8,17 @@ use Rattle.std.specs.List.Sorted.{IsPartitionedBy, IsPartitionPoint}
 use Rattle.std.proofs.lemmas.List.Sorted.{IsPartitionedBy-ltb}
 use Rattle.std.proofs.lemmas.List.{get_or-take, get_or_read, length-take-le, length-append, take_more_set}
 use Rattle.std.proofs.lemmas.List.Folds.{list_any_at, list_any_none}
-use Rattle.std.proofs.lemmas.Bool.{false≢true, ltb-true, ltb-false, le-leb, leb-true, eq-eqb, ne_eqb, cases_eq, cases_lt, cases_Bool, and_parts, and_from, or_left}
+use Rattle.std.proofs.lemmas.Bool.{false≢true, ltb-true, ltb-false, le-leb, leb-true, eq-eqb, ne_eqb, cases_eq, cases_lt, cases_Bool, false_from_ne_true, and_parts, and_from, or_left}
 use Rattle.std.proofs.lemmas.Bool.Decides.{nat_tests}
 use Rattle.sets.specs.Members.{one, size, SameMembers, NextFrom}
 use Rattle.sets.specs.Sizes.{size_alike}
 use Rattle.sets.specs.declared.list_record.ListRecord.{ListRecord}
 use Rattle.sets.specs.Ascending.{ascend_from, among}
 use Rattle.sets.specs.ListRecords.{listed, passes, members, Ascends}
-use Rattle.sets.specs.ListRecordsLemmas.{ascend_parts, ascend_cons, ascend_nil, among_between, ascend_push}
+use Rattle.sets.specs.ListRecordsLemmas.{ascend_parts, ascend_cons, among_between, ascend_push}
 
 not_among : (x n : ℕ) (xs : List ℕ) → ascend_from (x + 1) xs ≡ true → n ≤ x → among xs n ≡ false
-not_among x n xs a h = ⊎_elim
-    (λ (e : among xs n ≡ true). absurd (let b = among_between (x + 1) xs n a e in let z : ⊥ = omega arith in z))
-    (λ (e : among xs n ≡ false). e)
-    (cases_Bool (among xs n))
+not_among x n xs a h = false_from_ne_true _ (λ e. let b = among_between (x + 1) xs n a e in omega arith)
 
 pub length_ascending : (least : ℕ) (xs : List ℕ) → ascend_from least xs ≡ true → least ≤ 64 → least + length xs ≤ 64
 length_ascending least [] a h = omega arith
@@ -65,8 +62,8 @@ first_among x xs = or_left (eqb x x) (among xs x) (eq-eqb x x refl)
 least_first : (least x n : ℕ) (xs : List ℕ) → ascend_from least (x ∷ xs) ≡ true → among (x ∷ xs) n ≡ true → x ≤ n
 least_first least x n xs a h = let p = ascend_parts least x xs a in (among_between x (x ∷ xs) n (ascend_cons x x xs (omega arith) p.1 p.2) h).0
 
-tails_same : (b c d : Bool) → b ≡ false → (b || c) ≡ (b || d) → c ≡ d
-tails_same b c d e h = grind arith
+tails_same : (x y n : ℕ) (xs ys : List ℕ) → ascend_from (x + 1) xs ≡ true → ascend_from (y + 1) ys ≡ true → x ≡ y → among (x ∷ xs) n ≡ among (y ∷ ys) n → among xs n ≡ among ys n
+tails_same x y n xs ys a b e h = let left = not_among x n xs a in let right = not_among y n ys b in grind (arith, nat_tests)
 
 pub same_ascending : (l m : ℕ) (xs ys : List ℕ) → ascend_from l xs ≡ true → ascend_from m ys ≡ true → SameMembers (among xs) (among ys) → xs ≡ ys
 same_ascending l m [] [] a b h = refl
@@ -78,13 +75,7 @@ same_ascending l m (x ∷ xs) (y ∷ ys) a b h =
     let up = least_first m y x ys b (sym (h x) ∙ first_among x xs) in
     let down = least_first l x y xs a (h y ∙ first_among y ys) in
     let first : x ≡ y = omega arith in
-    ap₂ (λ (z : ℕ) (zs : List ℕ). z ∷ zs) first (same_ascending (x + 1) (y + 1) xs ys p.2 q.2 (λ n. ⊎_elim
-    (λ (e : n ≤ x). not_among x n xs p.2 e ∙ sym (not_among y n ys q.2 (omega arith)))
-    (λ (e : x < n). tails_same (eqb x n) (among xs n) (among ys n) (ne_eqb x n (λ (z : x ≡ n). omega arith)) (h n ∙ ap (λ (z : ℕ). eqb z n || among ys n) (sym first)))
-    (cases_le n x)))
-  where
-    cases_le : (n x : ℕ) → (n ≤ x) ⊎ (x < n)
-    cases_le n x = ⊎_elim (λ (e : x < n). inr e) (λ (e : n ≤ x). inl e) (cases_lt x n)
+    ap₂ (λ (z : ℕ) (zs : List ℕ). z ∷ zs) first (same_ascending (x + 1) (y + 1) xs ys p.2 q.2 (λ n. tails_same x y n xs ys p.2 q.2 first (h n)))
 
 -- ---- by place
 
@@ -100,7 +91,7 @@ rises least (x ∷ xs) a (suc i) (suc j) d l h = rises (x + 1) xs (ascend_parts 
 
 rises_over : (least : ℕ) (xs : List ℕ) → ((i : ℕ) → i < length xs → get_or xs i 0 < 64) → ((i : ℕ) → suc i < length xs → get_or xs i 0 < get_or xs (suc i) 0)
     → (0 < length xs → least ≤ get_or xs 0 0) → ascend_from least xs ≡ true
-rises_over least [] small up low = ascend_nil least
+rises_over least [] small up low = refl
 rises_over least (x ∷ xs) small up low =
     ascend_cons least x xs (low (omega arith)) (small 0 (omega arith))
     (rises_over (x + 1) xs (λ i h. small (suc i) (omega arith)) (λ i h. up (suc i) (omega arith)) (λ h. let next = up 0 (omega arith) in omega arith))
@@ -188,16 +179,13 @@ next_some r t i x h part l is = (
 -- the check of a list by its neighbours
 pub ascends_by : (xs : List ℕ) (r : Bool) → AllWithin (λ x. x < 64) xs 0 (length xs) → IsAllAdjacentAnswer (λ x y b. b ≡ ltb x y) xs r → r ≡ ascend_from 0 xs
 ascends_by xs true small up = sym (rises_over 0 xs (λ i l. small i 0 (omega arith) l) (λ i l. ltb-true _ _ (ap (ltb _) (ap (λ (k : ℕ). get_or xs k 0) (sym (add-one i))) ∙ sym (up i 0 (omega arith)))) (λ _. omega arith))
-ascends_by xs false small falls = ⊎_elim
-    (λ (e : ascend_from 0 xs ≡ true). let up = rises 0 xs e falls.0 (falls.0 + 1) 0 (omega arith) falls.1 in let not_up = ltb-false _ _ (sym (falls.2 0)) in absurd (let z : ⊥ = omega arith in z))
-    (λ (e : ascend_from 0 xs ≡ false). sym e)
-    (cases_Bool (ascend_from 0 xs))
+ascends_by xs false small falls = sym (false_from_ne_true _ (λ e.
+    let up = rises 0 xs e falls.0 (falls.0 + 1) 0 (omega arith) falls.1 in
+    let not_up = ltb-false _ _ (sym (falls.2 0)) in
+    omega arith))
 
 pub not_small : (xs : List ℕ) (k : ℕ) → k < length xs → 64 ≤ get_or xs k 0 → false ≡ ascend_from 0 xs
-not_small xs k l h = ⊎_elim
-    (λ (e : ascend_from 0 xs ≡ true). let at = at_least 0 xs e k 0 l in absurd (let z : ⊥ = omega arith in z))
-    (λ (e : ascend_from 0 xs ≡ false). sym e)
-    (cases_Bool (ascend_from 0 xs))
+not_small xs k l h = sym (false_from_ne_true _ (λ e. let at = at_least 0 xs e k 0 l in omega arith))
 
 -- the check of a record says that its items ascend
 passes_ascends : (r : ListRecord) → length r.items ≡ 64 → IsTrue (passes r) ↔ Ascends r
@@ -227,13 +215,9 @@ check_ascends r b whole is = subst (λ (x : Bool). IsTrue x ↔ Ascends r) (sym 
 
 -- r has the members of u below from, and t has one more, the next
 pub merge_step : (u r t : ℕ → Bool) (from n : ℕ) → NextFrom u from (Some n) → ((k : ℕ) → r k ≡ (ltb k from && u k)) → ((k : ℕ) → t k ≡ (r k || eqb k n)) → (k : ℕ) → t k ≡ (ltb k (n + 1) && u k)
-merge_step u r t from n next was is k = is k ∙ ap (λ b. b || eqb k n) (was k) ∙ ⊎_elim
-    (λ (e : k ≡ n). member (u k) (ap u e ∙ next.1) e)
-    (λ (e : k ≡ n → ⊥). other (u k) e (next.2 k))
-    (cases_eq k n)
-  where
-    member : (b : Bool) → b ≡ true → k ≡ n → ((ltb k from && b) || eqb k n) ≡ (ltb k (n + 1) && b)
-    member b h e = grind (arith, nat_tests)
-
-    other : (b : Bool) → (k ≡ n → ⊥) → (from ≤ k → k < n → b ≡ false) → ((ltb k from && b) || eqb k n) ≡ (ltb k (n + 1) && b)
-    other b e gap = let low = next.0 in grind (arith, nat_tests)
+merge_step u r t from n next was is k =
+    let before = was k in
+    let after = is k in
+    let gap = next.2 k in
+    let low = next.0 in
+    ⊎_elim (λ (e : k ≡ n). let here = ap u e ∙ next.1 in grind (arith, nat_tests)) (λ (e : k ≡ n → ⊥). grind (arith, nat_tests)) (cases_eq k n)

@@ -17,9 +17,6 @@ ascend_parts least x xs h = let all = and_parts _ _ h in let first = and_parts _
 pub ascend_cons : (least x : ℕ) (xs : List ℕ) → least ≤ x → x < 64 → ascend_from (x + 1) xs ≡ true → ascend_from least (x ∷ xs) ≡ true
 ascend_cons least x xs a b h = and_from _ _ (and_from _ _ (le-leb _ _ a) (lt-ltb _ _ b)) h
 
-pub ascend_nil : (least : ℕ) → ascend_from least [] ≡ true
-ascend_nil least = refl
-
 pub among_between : (least : ℕ) (xs : List ℕ) (n : ℕ) → ascend_from least xs ≡ true → among xs n ≡ true → (least ≤ n) × (n < 64)
 among_between least [] n a h = absurd (false≢true h)
 among_between least (x ∷ xs) n a h =
@@ -31,17 +28,14 @@ among_between least (x ∷ xs) n a h =
 
 -- one more number at the end
 pub ascend_push : (least : ℕ) (xs : List ℕ) (n : ℕ) → ascend_from least xs ≡ true → least ≤ n → n < 64 → ((k : ℕ) → among xs k ≡ true → k < n) → ascend_from least (xs ++ n ∷ []) ≡ true
-ascend_push least [] n a low small above = ascend_cons least n [] low small (ascend_nil (n + 1))
+ascend_push least [] n a low small above = ascend_cons least n [] low small refl
 ascend_push least (x ∷ xs) n a low small above =
     let p = ascend_parts least x xs a in
     let first = above x (or_left (x == x) (among xs x) (eq-eqb x x refl)) in
     ascend_cons least x (xs ++ n ∷ []) p.0 p.1 (ascend_push (x + 1) xs n p.2 (omega arith) small (λ k m. above k (or_right (x == k) (among xs k) m)))
 
 pub among_push : (xs : List ℕ) (n k : ℕ) → among (xs ++ n ∷ []) k ≡ (among xs k || k == n)
-among_push xs n k = list_any-append (λ x. x == k) xs (n ∷ []) ∙ ap (λ b. among xs k || b) (turned n k)
-  where
-    turned : (n k : ℕ) → ((n == k) || false) ≡ (k == n)
-    turned n k = grind (arith, nat_tests)
+among_push xs n k = let joined = list_any-append (λ x. x == k) xs (n ∷ []) in grind (arith, nat_tests)
 
 -- ---- records
 
@@ -64,31 +58,25 @@ with_next : (p : ℕ → Bool) (k : ℕ) (xs : List ℕ) → k < 64 → AreNumbe
 with_next p k xs h before e = record {
   short = omega (arith, before.short, length-append xs (k ∷ []));
   ascend = ascend_push 0 xs k before.ascend (omega arith) h (λ n m. ltb-true n k (and_parts _ _ (sym (before.are n) ∙ m)).0);
-  are = λ n. among_push xs k n ∙ ap (λ b. b || n == k) (before.are n) ∙ ⊎_elim (λ (x : n ≡ k). here n (ap p x ∙ e)) (λ (x : n ≡ k → ⊥). there n x) (cases_eq n k);
+  are = λ n. let was = before.are n in let pushed = among_push xs k n in ⊎_elim
+      (λ (x : n ≡ k). let here = ap p x ∙ e in grind (arith, nat_tests))
+      (λ (x : n ≡ k → ⊥). grind (arith, nat_tests))
+      (cases_eq n k);
 }
-  where
-    here : (n : ℕ) → p n ≡ true → ((nat_lt n k && p n) || n == k) ≡ (nat_lt n (suc k) && p n)
-    here n x = grind (arith, nat_tests)
-
-    there : (n : ℕ) → (n ≡ k → ⊥) → ((nat_lt n k && p n) || n == k) ≡ (nat_lt n (suc k) && p n)
-    there n x = grind (arith, nat_tests)
 
 without_next : (p : ℕ → Bool) (k : ℕ) (xs : List ℕ) → AreNumbers p k xs → p k ≡ false → AreNumbers p (suc k) xs
 without_next p k xs before e = record {
   short = omega (arith, before.short);
   ascend = before.ascend;
-  are = λ n. before.are n ∙ ⊎_elim (λ (x : n ≡ k). here n (ap p x ∙ e)) (λ (x : n ≡ k → ⊥). there n x) (cases_eq n k);
+  are = λ n. let was = before.are n in ⊎_elim
+      (λ (x : n ≡ k). let here = ap p x ∙ e in grind (arith, nat_tests))
+      (λ (x : n ≡ k → ⊥). grind (arith, nat_tests))
+      (cases_eq n k);
 }
-  where
-    here : (n : ℕ) → p n ≡ false → (nat_lt n k && p n) ≡ (nat_lt n (suc k) && p n)
-    here n x = grind (arith, nat_tests)
-
-    there : (n : ℕ) → (n ≡ k → ⊥) → (nat_lt n k && p n) ≡ (nat_lt n (suc k) && p n)
-    there n x = grind (arith, nat_tests)
 
 are_numbers : (p : ℕ → Bool) (k : ℕ) → k ≤ 64 → AreNumbers p k (numbers p k)
 unfolding numbers
-are_numbers p zero h = record { short = omega arith; ascend = ascend_nil 0; are = λ n. let above = le-ltb n 0 (omega arith) in rw above }
+are_numbers p zero h = record { short = omega arith; ascend = refl; are = λ n. let above = le-ltb n 0 (omega arith) in rw above }
 are_numbers p (suc k) h =
     let before = are_numbers p k (omega arith) in
     ⊎_elim
