@@ -28,7 +28,8 @@ impl AscendingList {
         }
     }
 
-    /// The list of a record that passes the check, and else the empty list.
+    /// The list of a record that passes the check, and else the empty list: so it is no `From`, which keeps what it is
+    /// given.
     pub fn of_record(plain: ListRecord) -> AscendingList
         ensures { (n : ℕ) → members result.record n ≡ members plain n }
     {
@@ -126,10 +127,8 @@ impl AscendingList {
         ensures members { (k : ℕ) → members result.record k ≡ with_member 64 n (members self.record) k }
         ensures rest { RestIsZero result.record }
     {
-        let mut one = AscendingList::empty();
-        if n < 64 {
-            one = one.appended(n as u8);
-        }
+        let none = AscendingList::empty();
+        let one = if n < 64 { none.appended(n as u8) } else { none };
         self.union(&one)
     }
 }

@@ -61,12 +61,12 @@ pub fn first_from(words: &[u64; 4], from: u16) -> Option<u16>
     if rest != 0 {
         return Some(from + rest.trailing_zeros() as u16);
     }
-    let i = start + 1 + first_full(&words[start + 1..])?;
+    let i = start + 1 + first_nonzero(&words[start + 1..])?;
     Some(i as u16 * 64 + words[i].trailing_zeros() as u16)
 }
 
 /// The place of the first word that is not 0.
-fn first_full(words: &[u64]) -> Option<usize>
+fn first_nonzero(words: &[u64]) -> Option<usize>
     ensures { result ≡ position (λ w. not (w == 0)) words.now }
 {
     words.iter().position(|word| *word != 0)

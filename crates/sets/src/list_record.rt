@@ -10,9 +10,9 @@ ghost use Rattle.std.proofs.Common.{rules};
 use crate::ascending_list::AscendingList;
 use crate::small_set::SmallSet;
 
-/// What lies in memory. Any numbers may stand in it: the first `len` items are the members if they pass the check,
-/// and a record that fails it means the empty set. Each call makes the list from the record and, where it
-/// changes the set, writes back the record of a list.
+/// What lies in memory, and so a plain record: its length stands beside its items. Any numbers may stand in it: the
+/// first `len` items are the members if they pass the check, and a record that fails it means the empty set. Each call
+/// makes the list from the record and, where it changes the set, writes back the record of a list.
 #[derive(Clone, Copy)]
 pub struct ListRecord {
     pub len: u8,

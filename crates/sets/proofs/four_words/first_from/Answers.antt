@@ -10,9 +10,9 @@ returns-then-rest-ne0 c =
 pub returns-in_err-i : goal.returns-in_err-i
 returns-in_err-i c =
     let start = start_at c.args.words.now _ _ _ c.told-words c.from-start.ensures c.in_ok-rest.ensures.lookup.0 c.in_ok-rest.ensures.lookup.1 in
-    rw c.from_residual-in_err-i.ensures (next_in_no_word start c.told-words c.if-rest-ne0.false (sym c.first_full.ensures ∙ c.in_err-i.was))
+    rw c.from_residual-in_err-i.ensures (next_in_no_word start c.told-words c.if-rest-ne0.false (sym c.first_nonzero.ensures ∙ c.in_err-i.was))
 
 pub returns : goal.returns
 returns c =
     let start = start_at c.args.words.now _ _ _ c.told-words c.from-start.ensures c.in_ok-rest.ensures.lookup.0 c.in_ok-rest.ensures.lookup.1 in
-    next_in_later_word start c.in_ok-i.field-0 c.told-words c.if-rest-ne0.false (sym c.first_full.ensures ∙ c.in_ok-i.was) (c.fits-words _)
+    next_in_later_word start c.in_ok-i.field-0 c.told-words c.if-rest-ne0.false (sym c.first_nonzero.ensures ∙ c.in_ok-i.was) (c.fits-words _)
