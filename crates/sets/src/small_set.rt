@@ -8,7 +8,8 @@ pub trait SmallSet: Copy {
     /// The width: members are below it.
     const W: u16;
 
-    /// The same number, as clauses name it. The check proves of each kind that the two are equal.
+    /// The same number, for clauses, which cannot name a trait's constant. The check proves of each kind that the two
+    /// are equal.
     ghost W: { ℕ };
 
     /// Whether a number is a member.
