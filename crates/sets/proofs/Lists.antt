@@ -1,5 +1,5 @@
 -- What is true of lists of ascending numbers, and of the records that list them. Assumes nothing.
-use Rattle.std.proofs.Common.{◌≡◌, ℕ, zero, suc, ◌+◌, ◌<◌, ◌≤◌, Bool, true, false, ◌&&◌, ◌||◌, ◌⊎◌, ltb, eqb, List, [], ◌∷◌, ◌++◌, length, get_or, set, replicate, Some, refl, subst, sym, ap, ap₂, ◌∙◌, inl, inr, ⊎_elim, add-one, arith}
+use Rattle.std.proofs.Common.{◌≡◌, ℕ, zero, suc, ◌+◌, ◌<◌, ◌≤◌, Bool, true, false, ◌||◌, ltb, eqb, List, [], ◌∷◌, ◌++◌, length, get_or, set, replicate, Some, refl, subst, sym, ap, ap₂, ◌∙◌, ⊎_elim, add-one, arith}
 use Rattle.std.specs.Prelude.{IsTrue, ◌↔◌, nat_eq}
 use lib.Pointwise.{pointwise}
 use Rattle.std.specs.Cmp.Lexicographic.{told_text}
@@ -8,7 +8,7 @@ use Rattle.std.specs.List.Sorted.{IsPartitionedBy, IsPartitionPoint}
 use Rattle.std.proofs.lemmas.List.Sorted.{IsPartitionedBy-ltb}
 use Rattle.std.proofs.lemmas.List.{get_or-take, get_or_read, length-take-le, length-append, take_more_set}
 use Rattle.std.proofs.lemmas.List.Folds.{list_any_at, list_any_none}
-use Rattle.std.proofs.lemmas.Bool.{false≢true, ltb-true, ltb-false, le-leb, leb-true, eq-eqb, ne_eqb, cases_eq, cases_lt, cases_Bool, false_from_ne_true, and_parts, and_from, or_left}
+use Rattle.std.proofs.lemmas.Bool.{false≢true, ltb-true, ltb-false, le-leb, leb-true, eq-eqb, ne_eqb, cases_eq, cases_lt, false_from_ne_true, and_parts, and_from, or_left}
 use Rattle.std.proofs.lemmas.Bool.Decides.{nat_tests}
 use Rattle.sets.specs.Members.{one, size, SameMembers, NextFrom}
 use Rattle.sets.specs.Sizes.{size_alike}
@@ -20,7 +20,7 @@ use Rattle.sets.specs.ListRecordsLemmas.{ascend_parts, ascend_cons, among_betwee
 not_among : (x n : ℕ) (xs : List ℕ) → ascend_from (x + 1) xs ≡ true → n ≤ x → among xs n ≡ false
 not_among x n xs a h = false_from_ne_true _ (λ e. let b = among_between (x + 1) xs n a e in omega arith)
 
-pub length_ascending : (least : ℕ) (xs : List ℕ) → ascend_from least xs ≡ true → least ≤ 64 → least + length xs ≤ 64
+length_ascending : (least : ℕ) (xs : List ℕ) → ascend_from least xs ≡ true → least ≤ 64 → least + length xs ≤ 64
 length_ascending least [] a h = omega arith
 length_ascending least (x ∷ xs) a h = let p = ascend_parts least x xs a in let rest = length_ascending (x + 1) xs p.2 (omega arith) in omega arith
 
@@ -46,7 +46,7 @@ size_more (suc v) m p q l h e = ⊎_elim
     omega arith)
     (cases_eq m v)
 
-pub size_ascending : (least : ℕ) (xs : List ℕ) → ascend_from least xs ≡ true → size 64 (among xs) ≡ length xs
+size_ascending : (least : ℕ) (xs : List ℕ) → ascend_from least xs ≡ true → size 64 (among xs) ≡ length xs
 size_ascending least [] a = size_empty 64
 size_ascending least (x ∷ xs) a =
     let p = ascend_parts least x xs a in
@@ -65,7 +65,7 @@ least_first least x n xs a h = let p = ascend_parts least x xs a in (among_betwe
 tails_same : (x y n : ℕ) (xs ys : List ℕ) → ascend_from (x + 1) xs ≡ true → ascend_from (y + 1) ys ≡ true → x ≡ y → among (x ∷ xs) n ≡ among (y ∷ ys) n → among xs n ≡ among ys n
 tails_same x y n xs ys a b e h = let left = not_among x n xs a in let right = not_among y n ys b in grind (arith, nat_tests)
 
-pub same_ascending : (l m : ℕ) (xs ys : List ℕ) → ascend_from l xs ≡ true → ascend_from m ys ≡ true → SameMembers (among xs) (among ys) → xs ≡ ys
+same_ascending : (l m : ℕ) (xs ys : List ℕ) → ascend_from l xs ≡ true → ascend_from m ys ≡ true → SameMembers (among xs) (among ys) → xs ≡ ys
 same_ascending l m [] [] a b h = refl
 same_ascending l m [] (y ∷ ys) a b h = absurd (false≢true (h y ∙ first_among y ys))
 same_ascending l m (x ∷ xs) [] a b h = absurd (false≢true (sym (h x) ∙ first_among x xs))
@@ -82,7 +82,7 @@ same_ascending l m (x ∷ xs) (y ∷ ys) a b h =
 at_least : (least : ℕ) (xs : List ℕ) → ascend_from least xs ≡ true → (i d : ℕ) → i < length xs → (least ≤ get_or xs i d) × (get_or xs i d < 64)
 at_least least xs a i d h = among_between least xs (get_or xs i d) a (list_any_at (λ x. eqb x (get_or xs i d)) xs i d h (eq-eqb _ _ refl))
 
-pub rises : (least : ℕ) (xs : List ℕ) → ascend_from least xs ≡ true → (i j d : ℕ) → i < j → j < length xs → get_or xs i d < get_or xs j d
+rises : (least : ℕ) (xs : List ℕ) → ascend_from least xs ≡ true → (i j d : ℕ) → i < j → j < length xs → get_or xs i d < get_or xs j d
 rises least [] a i j d l h = absurd (let z : ⊥ = omega arith in z)
 rises least (x ∷ xs) a zero zero d l h = absurd (let z : ⊥ = omega arith in z)
 rises least (x ∷ xs) a (suc i) zero d l h = absurd (let z : ⊥ = omega arith in z)
@@ -99,7 +99,7 @@ rises_over least (x ∷ xs) small up low =
 -- ---- records
 
 module _ (r : ListRecord) (h : IsTrue (passes r)) where
-  pub len_fits : r.len ≤ 64
+  len_fits : r.len ≤ 64
   len_fits = leb-true _ _ (and_parts _ _ h).0
 
   pub ascending : ascend_from 0 (listed r) ≡ true
@@ -155,7 +155,7 @@ parted r t h = IsPartitionedBy-ltb (λ x. x) (listed r) t (λ i j d a l. ⊎_eli
     (λ (e : i ≡ j → ⊥). let up = rises 0 (listed r) (ascending r h) i j d (omega arith) l in omega arith)
     (cases_eq i j))
 
-abbrev pub Parts : ListRecord → ℕ → ℕ → Type 0
+abbrev Parts : ListRecord → ℕ → ℕ → Type 0
 Parts r t i = IsPartitionPoint (λ y. ltb y t ≡ true) (λ y. ltb y t ≡ false) (listed r) i
 
 pub next_none : (r : ListRecord) (t i : ℕ) → IsTrue (passes r) → Parts r t i → length (listed r) ≤ i → (n : ℕ) → t ≤ n → members r n ≡ false
@@ -210,14 +210,3 @@ passes_ascends r whole = (
 
 pub check_ascends : (r : ListRecord) (b : Bool) → length r.items ≡ 64 → b ≡ passes r → IsTrue b ↔ Ascends r
 check_ascends r b whole is = subst (λ (x : Bool). IsTrue x ↔ Ascends r) (sym is) (passes_ascends r whole)
-
--- ---- a merge
-
--- r has the members of u below from, and t has one more, the next
-pub merge_step : (u r t : ℕ → Bool) (from n : ℕ) → NextFrom u from (Some n) → ((k : ℕ) → r k ≡ (ltb k from && u k)) → ((k : ℕ) → t k ≡ (r k || eqb k n)) → (k : ℕ) → t k ≡ (ltb k (n + 1) && u k)
-merge_step u r t from n next was is k =
-    let before = was k in
-    let after = is k in
-    let gap = next.2 k in
-    let low = next.0 in
-    ⊎_elim (λ (e : k ≡ n). let here = ap u e ∙ next.1 in grind (arith, nat_tests)) (λ (e : k ≡ n → ⊥). grind (arith, nat_tests)) (cases_eq k n)

@@ -34,7 +34,7 @@ ascend_push least (x ∷ xs) n a low small above =
     let first = above x (or_left (x == x) (among xs x) (eq-eqb x x refl)) in
     ascend_cons least x (xs ++ n ∷ []) p.0 p.1 (ascend_push (x + 1) xs n p.2 (omega arith) small (λ k m. above k (or_right (x == k) (among xs k) m)))
 
-pub among_push : (xs : List ℕ) (n k : ℕ) → among (xs ++ n ∷ []) k ≡ (among xs k || k == n)
+among_push : (xs : List ℕ) (n k : ℕ) → among (xs ++ n ∷ []) k ≡ (among xs k || k == n)
 among_push xs n k = let joined = list_any-append (λ x. x == k) xs (n ∷ []) in grind (arith, nat_tests)
 
 -- ---- records
