@@ -1,8 +1,8 @@
 pub mod Members
 pub mod FourWords
 pub mod BitRows
-pub mod AscendingLists
-pub mod FourWordsLemmas
-pub mod Bits
+pub mod Ascending
+pub mod ListRecords
 pub mod Sizes
-pub mod AscendingListsLemmas
+pub mod FourWordsLemmas
+pub mod ListRecordsLemmas

@@ -25,7 +25,3 @@ NextFrom p from r =
     MatchOption r
     ((n : ℕ) → from ≤ n → p n ≡ false)
     (λ m. (from ≤ m) × (p m ≡ true) × ((n : ℕ) → from ≤ n → n < m → p n ≡ false))
-
--- r is the least member of p not below from, or w where there is none below w
-abbrev pub FirstFrom : ℕ → (ℕ → Bool) → ℕ → ℕ → Type 0
-FirstFrom w p from r = (r ≤ w) × (r < w → (from ≤ r) × (p r ≡ true)) × ((n : ℕ) → from ≤ n → n < r → p n ≡ false)

@@ -1,153 +1,121 @@
 //! A list of numbers below 64 in strictly ascending order. Its type carries the order and the bound, so no list ever
 //! holds a member twice or out of order; a list is changed by value and written whole.
 
-ghost use Rattle.std.specs.Prelude.{◌≡◌, ℕ, ◌<◌, ◌≤◌, true, false, ◌||◌, Decides, ◌==◌, slice_index};
-ghost use Rattle.sets.specs.Members.{size, with_member, SameMembers, NextFrom, FirstFrom};
-ghost use Rattle.sets.specs.AscendingLists.{Ascending, passes, among, in_record};
+ghost use Rattle.std.specs.Prelude.{◌≡◌, ℕ, ◌<◌, true, false, ◌||◌, ◌==◌, ◌↔◌, IsTrue, IfSome};
+ghost use Rattle.sets.specs.Members.{size, with_member, SameMembers, NextFrom};
+ghost use Rattle.sets.specs.ListRecords.{listed, passes, members, RestIsZero};
 
 use crate::list_record::ListRecord;
 
-/// The first `len` items.
+/// A record that passes the check.
 #[derive(Clone, Copy)]
 pub struct AscendingList {
-    len: u8,
-    items: [u8; 64],
-    ghost ascends: { Ascending len items },
+    record: ListRecord,
+    ghost ascends: { IsTrue (passes «record») },
 }
 
 impl AscendingList {
     /// The list without members.
     pub fn empty() -> AscendingList
-        ensures { (n : ℕ) → among result.items result.len n ≡ false }
+        ensures members { (n : ℕ) → members result.record n ≡ false }
+        ensures rest { RestIsZero result.record }
     {
         AscendingList {
-            len: 0,
-            items: [0; 64],
+            record: ListRecord {
+                len: 0,
+                items: [0; 64],
+            },
         }
     }
 
-    /// The list of a record that passes the check, and else the empty list.
-    pub fn of_record(record: &ListRecord) -> AscendingList
-        ensures { (n : ℕ) → among result.items result.len n ≡ in_record «record».now.len «record».now.items n }
+    /// The list of a record that passes the check, and else the empty list: so it is no `From`, which keeps what it is
+    /// given.
+    pub fn of_record(plain: ListRecord) -> AscendingList
+        ensures { (n : ℕ) → members result.record n ≡ members plain n }
     {
-        if !record.passes_check() {
-            return AscendingList::empty();
-        }
-        let items = record.items;
-        AscendingList {
-            len: record.len,
-            items,
-        }
-    }
-
-    /// The record of the list, which passes the check.
-    pub fn to_record(self) -> ListRecord
-        ensures passes { passes result.len result.items ≡ true }
-        ensures members { (n : ℕ) → in_record result.len result.items n ≡ among self.items self.len n }
-    {
-        let items = self.items;
-        ListRecord {
-            len: self.len,
-            items,
-        }
-    }
-
-    /// How many members are below `n`, which is the place of the first that is not. By halving.
-    fn count_below(&self, n: u16) -> u8
-        ensures within { result ≤ self.now.len }
-        ensures before { (k : ℕ) → k < result → slice_index self.now.items k < n }
-        ensures after { (k : ℕ) → result ≤ k → k < self.now.len → n ≤ slice_index self.now.items k }
-    {
-        let mut low = 0u8;
-        let mut high = self.len;
-        while low < high {
-            let mid = (low + high) / 2;
-            if (self.items[mid as usize] as u16) < n {
-                low = mid + 1;
-            } else {
-                high = mid;
-            }
-        }
-        low
-    }
-
-    /// The least member not below `from`, or 64, which is above all members: so the lesser of two lists' answers is
-    /// the answer for both.
-    fn first_from(&self, from: u16) -> u16
-        ensures { FirstFrom 64 (among self.now.items self.now.len) from result }
-    {
-        let at = self.count_below(from);
-        if at < self.len {
-            self.items[at as usize] as u16
+        if plain.passes_check() {
+            AscendingList { record: plain }
         } else {
-            64
+            AscendingList::empty()
         }
     }
 
-    /// The least member not below `from`, if there is one.
-    pub fn next_from(&self, from: u16) -> Option<u16>
-        ensures { NextFrom (among self.now.items self.now.len) from result }
+    /// The members in order.
+    pub fn as_slice(&self) -> &[u8]
+        ensures { result.now ≡ listed self.now.record }
     {
-        let n = self.first_from(from);
-        if n < 64 { Some(n) } else { None }
+        &self.record.items[..usize::from(self.record.len)]
+    }
+
+    /// The least member not below `from`, if there is one. By halving.
+    pub fn next_from(&self, from: u16) -> Option<u16>
+        ensures next { NextFrom (members self.now.record) from result }
+        ensures small { IfSome result (λ n. n < 64) }
+    {
+        let list = self.as_slice();
+        let at = list.partition_point(|x| u16::from(*x) < from);
+        let next = *list.get(at)?;
+        Some(u16::from(next))
     }
 
     /// Whether `n` is a member.
     pub fn contains(&self, n: u16) -> bool
-        ensures { result ≡ among self.now.items self.now.len n }
+        ensures { result ≡ members self.now.record n }
     {
-        n < 64 && self.first_from(n) == n
+        self.next_from(n) == Some(n)
     }
 
     /// The number of members.
     pub fn count(&self) -> u16
-        ensures { result ≡ size 64 (among self.now.items self.now.len) }
+        ensures { result ≡ size 64 (members self.now.record) }
     {
-        self.len as u16
+        u16::from(self.record.len)
     }
 
     /// Whether both have the same members: then they have the same items.
     pub fn same(&self, other: &AscendingList) -> bool
-        ensures { Decides result (SameMembers (among self.now.items self.now.len) (among other.now.items other.now.len)) }
+        ensures { IsTrue result ↔ SameMembers (members self.now.record) (members other.now.record) }
     {
-        if self.len != other.len {
-            return false;
-        }
-        for i in 0..self.len as usize {
-            if self.items[i] != other.items[i] {
-                return false;
-            }
-        }
-        true
+        self.as_slice() == other.as_slice()
     }
 
     /// The list with `n`, which is above its members, at its end.
     fn appended(self, n: u8) -> AscendingList
         requires small { n < 64 }
-        requires above { (k : ℕ) → among self.items self.len k ≡ true → k < n }
-        ensures { (k : ℕ) → among result.items result.len k ≡ (among self.items self.len k || k == n) }
+        requires above { (k : ℕ) → members self.record k ≡ true → k < n }
+        ensures members { (k : ℕ) → members result.record k ≡ (members self.record k || k == n) }
+        ensures rest { RestIsZero self.record → RestIsZero result.record }
     {
-        let mut items = self.items;
-        items[self.len as usize] = n;
+        let ListRecord { len, mut items } = self.record;
+        items[usize::from(len)] = n;
         AscendingList {
-            len: self.len + 1,
-            items,
+            record: ListRecord {
+                len: len + 1,
+                items,
+            },
+        }
+    }
+
+    /// The least member of either list that is not below `from`, if there is one.
+    fn next_of_either(&self, other: &AscendingList, from: u16) -> Option<u16>
+        ensures next { NextFrom (λ n. members self.now.record n || members other.now.record n) from result }
+        ensures small { IfSome result (λ n. n < 64) }
+    {
+        match (self.next_from(from), other.next_from(from)) {
+            (Some(a), Some(b)) => Some(a.min(b)),
+            (Some(n), None) | (None, Some(n)) => Some(n),
+            (None, None) => None,
         }
     }
 
     /// All members of both: the least of what is left of the two, again and again.
     pub fn union(&self, other: &AscendingList) -> AscendingList
-        ensures { (k : ℕ) → among result.items result.len k ≡ (among self.now.items self.now.len k || among other.now.items other.now.len k) }
+        ensures members { (k : ℕ) → members result.record k ≡ (members self.now.record k || members other.now.record k) }
+        ensures rest { RestIsZero result.record }
     {
         let mut out = AscendingList::empty();
-        let mut from = 0u16;
-        while from < 64 {
-            let a = self.first_from(from);
-            let b = other.first_from(from);
-            let n = a.min(b);
-            if n >= 64 {
-                break;
-            }
+        let mut from = 0;
+        while let Some(n) = self.next_of_either(other, from) {
             out = out.appended(n as u8);
             from = n + 1;
         }
@@ -156,12 +124,19 @@ impl AscendingList {
 
     /// The list with `n`, if that is below 64.
     pub fn with(self, n: u16) -> AscendingList
-        ensures { (k : ℕ) → among result.items result.len k ≡ with_member 64 n (among self.items self.len) k }
+        ensures members { (k : ℕ) → members result.record k ≡ with_member 64 n (members self.record) k }
+        ensures rest { RestIsZero result.record }
     {
-        if n >= 64 {
-            return self;
-        }
-        let one = AscendingList::empty().appended(n as u8);
+        let none = AscendingList::empty();
+        let one = if n < 64 { none.appended(n as u8) } else { none };
         self.union(&one)
+    }
+}
+
+impl From<AscendingList> for ListRecord {
+    ghost from_gives = { λ list result. result ≡ list.record };
+
+    fn from(list: AscendingList) -> ListRecord {
+        list.record
     }
 }

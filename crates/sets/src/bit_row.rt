@@ -26,10 +26,6 @@ impl SmallSet for BitRow {
 
     ghost every = { λ p. (record { words = row_of p }, λ n h. row_of_lem p n h) };
 
-    fn width() -> u16 {
-        Self::W
-    }
-
     fn empty() -> BitRow {
         BitRow {
             words: four_words::none(),
@@ -37,9 +33,8 @@ impl SmallSet for BitRow {
     }
 
     fn insert(&mut self, n: u16) -> bool {
-        let grows = n < 256 && !four_words::has(&self.words, n);
-        let words = four_words::with(self.words, n);
-        self.words = words;
+        let grows = n < Self::W && !self.contains(n);
+        self.words = four_words::with(self.words, n);
         grows
     }
 

@@ -1,9 +1,12 @@
 //! A row of 256 bits in four words, worked on word by word: number `n` is in the row where bit `n % 64` of word
-//! `n / 64` is set.
+//! `n / 64` is set. Functions of the words, and not methods of `BitRow`, so that its methods are thin and a wrong one is
+//! refused by the contract of what it calls.
 
-ghost use Rattle.std.specs.Prelude.{◌≡◌, ℕ, false, ◌||◌, Decides};
+ghost use Rattle.std.specs.Prelude.{◌≡◌, ℕ, false, not, ◌||◌, ◌==◌, ◌↔◌, IsTrue, position};
 ghost use Rattle.sets.specs.Members.{size, with_member, SameMembers, NextFrom};
 ghost use Rattle.sets.specs.FourWords.{in_row};
+
+use std::array;
 
 /// The row of no numbers.
 pub fn none() -> [u64; 4]
@@ -16,17 +19,16 @@ pub fn none() -> [u64; 4]
 pub fn has(words: &[u64; 4], n: u16) -> bool
     ensures { result ≡ in_row words.now n }
 {
-    n < 256 && (words[(n / 64) as usize] >> (n % 64)) & 1 == 1
+    n < 256 && (words[usize::from(n / 64)] >> (n % 64)) & 1 == 1
 }
 
 /// The row with `n`, if that is below 256.
 pub fn with(mut words: [u64; 4], n: u16) -> [u64; 4]
     ensures { (k : ℕ) → in_row result k ≡ with_member 256 n (in_row words) k }
 {
-    if n >= 256 {
-        return words;
+    if n < 256 {
+        words[usize::from(n / 64)] |= 1 << (n % 64);
     }
-    words[(n / 64) as usize] |= 1u64 << (n % 64);
     words
 }
 
@@ -34,49 +36,39 @@ pub fn with(mut words: [u64; 4], n: u16) -> [u64; 4]
 pub fn either(a: &[u64; 4], b: &[u64; 4]) -> [u64; 4]
     ensures { (n : ℕ) → in_row result n ≡ (in_row a.now n || in_row b.now n) }
 {
-    [a[0] | b[0], a[1] | b[1], a[2] | b[2], a[3] | b[3]]
+    array::from_fn(|i| a[i] | b[i])
 }
 
 /// Whether the same numbers are in both rows.
 pub fn equal(a: &[u64; 4], b: &[u64; 4]) -> bool
-    ensures { Decides result (SameMembers (in_row a.now) (in_row b.now)) }
+    ensures { IsTrue result ↔ SameMembers (in_row a.now) (in_row b.now) }
 {
-    for i in 0..4 {
-        if a[i] != b[i] {
-            return false;
-        }
-    }
-    true
+    a == b
 }
 
 /// How many numbers are in the row.
 pub fn ones(words: &[u64; 4]) -> u16
     ensures { result ≡ size 256 (in_row words.now) }
 {
-    let mut total = 0;
-    for word in words {
-        total += word.count_ones() as u16;
-    }
-    total
+    words.iter().map(|word| word.count_ones() as u16).sum()
 }
 
 /// The least number in the row that is not below `from`, if there is one.
 pub fn first_from(words: &[u64; 4], from: u16) -> Option<u16>
     ensures { NextFrom (in_row words.now) from result }
 {
-    if from >= 256 {
-        return None;
+    let start = usize::from(from / 64);
+    let rest = words.get(start)? >> (from % 64);
+    if rest != 0 {
+        return Some(from + rest.trailing_zeros() as u16);
     }
-    let start = (from / 64) as usize;
-    let first = words[start] >> (from % 64);
-    if first != 0 {
-        return Some(from + first.trailing_zeros() as u16);
-    }
-    for i in start + 1..4 {
-        let word = words[i];
-        if word != 0 {
-            return Some(i as u16 * 64 + word.trailing_zeros() as u16);
-        }
-    }
-    None
+    let i = start + 1 + first_nonzero(&words[start + 1..])?;
+    Some(i as u16 * 64 + words[i].trailing_zeros() as u16)
+}
+
+/// The place of the first word that is not 0.
+fn first_nonzero(words: &[u64]) -> Option<usize>
+    ensures { result ≡ position (λ w. not (w == 0)) words.now }
+{
+    words.iter().position(|word| *word != 0)
 }

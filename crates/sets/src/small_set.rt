@@ -1,22 +1,19 @@
 //! What a kind of set is: its values mean sets of numbers below its width.
 
-ghost use Rattle.std.specs.Prelude.{◌≡◌, ℕ, ◌<◌, ◌≤◌, Bool, true, false, not, ◌&&◌, ◌||◌, Decides, nat_lt};
+ghost use Rattle.std.specs.Prelude.{◌≡◌, ℕ, ◌<◌, ◌≤◌, Bool, true, false, not, ◌&&◌, ◌||◌, ◌↔◌, IsTrue, nat_lt};
 ghost use Rattle.sets.specs.Members.{size, with_member, NextFrom, SameMembers};
 
 /// A kind of set. Every contract gives its answer by `has`, the members; questions take `&self` and alter nothing.
 pub trait SmallSet: Copy {
-    /// The width: members are below it. Generic code reads it by `width()`.
+    /// The width: members are below it.
     const W: u16;
 
-    /// The same number, as clauses name it. The check proves of each kind that the two are equal.
+    /// The same number, for clauses, which cannot name a trait's constant. The check proves of each kind that the two
+    /// are equal.
     ghost W: { ℕ };
 
     /// Whether a number is a member.
     ghost has: { Self → ℕ → Bool };
-
-    /// The width. Each kind answers its constant `W`.
-    fn width() -> u16
-        ensures { result ≡ W };
 
     /// A new set, which has no members.
     fn empty() -> Self
@@ -37,7 +34,7 @@ pub trait SmallSet: Copy {
 
     /// Whether both have the same members. Two values that do may still differ in memory.
     fn same(&self, other: &Self) -> bool
-        ensures { Decides result (SameMembers (has self.now) (has other.now)) };
+        ensures { IsTrue result ↔ SameMembers (has self.now) (has other.now) };
 
     /// The number of members.
     fn count(&self) -> u16

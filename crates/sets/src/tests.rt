@@ -1,5 +1,6 @@
 //! Examples at the edges of both kinds.
 
+use crate::ascending_list::AscendingList;
 use crate::bit_row::BitRow;
 use crate::list_record::ListRecord;
 use crate::small_set::SmallSet;
@@ -21,23 +22,23 @@ fn edges<S: SmallSet>(rt: &impl Abort, last: u16) {
     assert!(rt; set.insert(0));
     assert!(rt; !set.insert(0));
     assert!(rt; set.insert(last));
-    assert!(rt; !set.insert(S::width()));
+    assert!(rt; !set.insert(S::W));
     assert!(rt; !set.insert(65535));
     assert_eq!(rt; set.count(), 2);
-    assert!(rt; set.contains(0) && set.contains(last) && !set.contains(S::width()));
+    assert!(rt; set.contains(0) && set.contains(last) && !set.contains(S::W));
     assert_eq!(rt; set.next_from(0), Some(0));
     assert_eq!(rt; set.next_from(1), Some(last));
     assert_eq!(rt; set.next_from(last), Some(last));
-    assert_eq!(rt; set.next_from(S::width()), None);
+    assert_eq!(rt; set.next_from(S::W), None);
 }
 
 /// The full set, and sets given in another order.
 fn full<S: SmallSet>(rt: &impl Abort) {
     let mut set = S::empty();
-    for n in 0..S::width() {
+    for n in 0..S::W {
         assert!(rt; set.insert(n));
     }
-    assert_eq!(rt; set.count(), S::width());
+    assert_eq!(rt; set.count(), S::W);
     let some: S = from_members(&[40, 5, 63, 17, 5]);
     let same: S = from_members(&[5, 17, 40, 63]);
     assert_eq!(rt; some.count(), 4);
@@ -47,7 +48,7 @@ fn full<S: SmallSet>(rt: &impl Abort) {
 
 #[test]
 fn bit_rows(rt: HostRuntime) {
-    assert_eq!(rt; BitRow::width(), 256);
+    assert_eq!(rt; BitRow::W, 256);
     edges::<BitRow>(&rt, 255);
     full::<BitRow>(&rt);
     let mut words: BitRow = from_members(&[63, 64]);
@@ -58,7 +59,7 @@ fn bit_rows(rt: HostRuntime) {
 
 #[test]
 fn list_records(rt: HostRuntime) {
-    assert_eq!(rt; ListRecord::width(), 64);
+    assert_eq!(rt; ListRecord::W, 64);
     edges::<ListRecord>(&rt, 63);
     full::<ListRecord>(&rt);
 }
@@ -89,4 +90,21 @@ fn broken_records(rt: HostRuntime) {
     };
     assert!(rt; once.passes_check());
     assert_eq!(rt; once.next_from(0), Some(5));
+}
+
+/// What is written holds 0 in the items that are not used, also where nothing is added.
+#[test]
+fn unused_items(rt: HostRuntime) {
+    let once = ListRecord {
+        len: 1,
+        items: [5; 64],
+    };
+    let mut two = once;
+    assert!(rt; two.insert(9));
+    assert!(rt; AscendingList::of_record(two).as_slice() == [5, 9].as_slice());
+    assert!(rt; two.items.iter().skip(2).all(|x| *x == 0));
+    let mut one = once;
+    assert!(rt; !one.insert(64));
+    assert!(rt; one.len == 1 && one.items.iter().skip(1).all(|x| *x == 0));
+    assert!(rt; once.union(&once).items.iter().skip(1).all(|x| *x == 0));
 }

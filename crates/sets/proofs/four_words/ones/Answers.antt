@@ -1,21 +1,18 @@
-use Rattle.std.proofs.Common.{◌+◌, ◌*◌, get_or, sym, ap, ◌∙◌, arith}
-use lib.Count.{ones, ones-le}
-use Rattle.sets.specs.FourWords.{in_row}
-use Rattle.sets.specs.Sizes.{size_zero, size_le}
-use Rattle.sets.specs.FourWordsLemmas.{row_count_more}
+use Rattle.std.proofs.Common.{◌∙◌, rules, tests}
+use lib.Count.{ones}
+use Rattle.std.proofs.lemmas.Iterator.{YieldsList-from_slice, YieldsList-from_map}
+use Rattle.std.proofs.lemmas.Iterator.Consumers.{fits_by_from_yields_list, sum_by_from_yields_List}
+use Rattle.sets.proofs.Rows.{row_count, row_count_fits}
 use Rattle.sets.proofs.four_words.ones.Goals as goal
 
-pub loop-word-init : goal.loop-word-init
-loop-word-init c = sym (size_zero (in_row c.args.words.now))
+pub sum-requires-clause-fits : goal.sum-requires-clause-fits
+sum-requires-clause-fits c =
+    fits_by_from_yields_list ones c.args.words.now c.map.result _
+    (YieldsList-from_map _ ones (YieldsList-from_slice c.args.words.now cc) c.map.ensures.closure (λ x r q k. search (rules, tests)))
+    (row_count_fits c.args.words.now c.told-words c.fits-words)
 
-pub overflow_cast-total : goal.overflow_cast-total
-overflow_cast-total c = omega (arith, ones-le 64 (get_or c.args.words.now c.loop-word.word-index 0) (omega arith))
-
-pub overflow_add-total : goal.overflow_add-total
-overflow_add-total c =
-    omega (arith, size_le (c.loop-word.word-index * 64) (in_row c.args.words.now), ones-le 64 (get_or c.args.words.now c.loop-word.word-index 0) (omega arith))
-
-pub loop-word-preserved : goal.loop-word-preserved
-loop-word-preserved c =
-    ap (λ n. n + ones (get_or c.args.words.now c.loop-word.word-index 0)) c.loop-word.invariant
-    ∙ row_count_more c.args.words.now c.loop-word.word-index c.loop-word-test.true (omega arith)
+pub returns : goal.returns
+returns c =
+    sum_by_from_yields_List ones c.args.words.now c.map.result c.sum.result c.sum.ensures.ran
+    (YieldsList-from_map _ ones (YieldsList-from_slice c.args.words.now cc) c.map.ensures.closure (λ x r q k. search (rules, tests)))
+    ∙ row_count c.args.words.now c.told-words c.fits-words

@@ -1,16 +1,9 @@
 use Rattle.std.proofs.Common.{arith}
-use Rattle.sets.specs.AscendingListsLemmas.{push_room, push_ascends, push_members}
+use Rattle.sets.proofs.Lists.{push_room, push_passes}
 use Rattle.sets.proofs.ascending_list.AscendingList.appended.Goals as goal
 
-pub bounds-items-self : goal.bounds-items-self
-bounds-items-self c = let h = push_room c.args.self.items c.args.self.len c.args.n c.args.self.ascends c.requires.small c.requires.above in omega arith
+pub bounds-items-from : goal.bounds-items-from
+bounds-items-from c = omega (arith, push_room c.args.self.record c.args.n c.args.self.ascends (omega arith) c.requires.small c.requires.above)
 
 pub invariant_of-result : goal.invariant_of-result
-invariant_of-result c =
-    let h = push_room c.args.self.items c.args.self.len c.args.n c.args.self.ascends c.requires.small c.requires.above in
-    record { ascends = push_ascends c.args.self.items c.args.self.len c.args.n (omega arith) c.args.self.ascends c.requires.small c.requires.above }
-
-pub returns : goal.returns
-returns c =
-    let h = push_room c.args.self.items c.args.self.len c.args.n c.args.self.ascends c.requires.small c.requires.above in
-    push_members c.args.self.items c.args.self.len c.args.n (omega arith)
+invariant_of-result c = rw c.from.ensures record { ascends = push_passes c.args.self.record c.args.n c.args.self.ascends (omega arith) c.requires.small c.requires.above }

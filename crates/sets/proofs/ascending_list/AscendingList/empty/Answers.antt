@@ -1,5 +1,5 @@
-use Rattle.sets.specs.AscendingListsLemmas.{among_empty}
+use Rattle.sets.proofs.Lists.{zeros}
 use Rattle.sets.proofs.ascending_list.AscendingList.empty.Goals as goal
 
-pub returns : goal.returns
-returns c = λ n. among_empty _ n
+pub returns-clause-rest : goal.returns-clause-rest
+returns-clause-rest c = λ i _. zeros 64 i

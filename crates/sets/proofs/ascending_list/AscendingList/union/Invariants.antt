@@ -1,11 +1,14 @@
 use Rattle.std.proofs.Common.{◌≡◌, ℕ, ◌-◌, ◌≤◌, ◌&&◌, ◌||◌, ltb}
-use Rattle.sets.specs.AscendingLists.{among}
+use Rattle.sets.specs.ListRecords.{members, RestIsZero}
 use Rattle.sets.proofs.ascending_list.AscendingList.union.Given as goal
 
-abbrev pub invariant-loop-from : goal.invariant-loop-from
-invariant-loop-from l =
-    (l.from ≤ 64)
-    × ((k : ℕ) → among l.out.items l.out.len k ≡ (ltb k l.from && (among l.self.items l.self.len k || among l.other.items l.other.len k)))
+abbrev pub invariant-loop-n : goal.invariant-loop-n
+invariant-loop-n l =
+    record {
+      within : l.from ≤ 64;
+      merged : (k : ℕ) → members l.out.record k ≡ (ltb k l.from && (members l.self.record k || members l.other.record k));
+      rest : RestIsZero l.out.record;
+    }
 
-abbrev pub decreases-loop-from : goal.decreases-loop-from
-decreases-loop-from l = 64 - l.from
+abbrev pub decreases-loop-n : goal.decreases-loop-n
+decreases-loop-n l = 64 - l.from
