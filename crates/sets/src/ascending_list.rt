@@ -1,7 +1,7 @@
 //! A list of numbers below 64 in strictly ascending order. Its type carries the order and the bound, so no list ever
 //! holds a member twice or out of order; a list is changed by value and written whole.
 
-ghost use Rattle.std.specs.Prelude.{◌≡◌, ℕ, ◌<◌, true, false, ◌||◌, ◌==◌, ◌↔◌, IsTrue, IfSome};
+ghost use Rattle.std.specs.Prelude.{◌≡◌, ℕ, ◌<◌, ◌≤◌, true, false, ◌||◌, ◌==◌, ◌↔◌, IsTrue, IfSome};
 ghost use Rattle.sets.specs.Members.{size, with_member, SameMembers, NextFrom};
 ghost use Rattle.sets.specs.ListRecords.{listed, passes, members, RestIsZero};
 
@@ -31,7 +31,8 @@ impl AscendingList {
     /// The list of a record that passes the check, and else the empty list: so it is no `From`, which keeps what it is
     /// given.
     pub fn of_record(plain: ListRecord) -> AscendingList
-        ensures { (n : ℕ) → members result.record n ≡ members plain n }
+        ensures members { (n : ℕ) → members result.record n ≡ members plain n }
+        ensures kept { IsTrue (passes plain) → result.record ≡ plain }
     {
         if plain.passes_check() {
             AscendingList { record: plain }
@@ -125,10 +126,13 @@ impl AscendingList {
     /// The list with `n`, if that is below 64.
     pub fn with(self, n: u16) -> AscendingList
         ensures members { (k : ℕ) → members result.record k ≡ with_member 64 n (members self.record) k }
-        ensures rest { RestIsZero result.record }
+        ensures rest { n < 64 → RestIsZero result.record }
+        ensures unaltered { 64 ≤ n → result ≡ self }
     {
-        let none = AscendingList::empty();
-        let one = if n < 64 { none.appended(n as u8) } else { none };
+        if n >= 64 {
+            return self;
+        }
+        let one = AscendingList::empty().appended(n as u8);
         self.union(&one)
     }
 }

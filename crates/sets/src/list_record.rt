@@ -1,6 +1,6 @@
 //! A set of numbers below 64 as a plain record of an ascending list.
 
-ghost use Rattle.std.specs.Prelude.{◌≡◌, ℕ, true, false, not, ◌&&◌, ◌||◌, ◌↔◌, IsTrue, nat_lt};
+ghost use Rattle.std.specs.Prelude.{◌≡◌, ℕ, ◌<◌, ◌≤◌, true, false, not, ◌&&◌, ◌||◌, ◌↔◌, IsTrue, nat_lt};
 ghost use Rattle.sets.specs.Members.{with_member};
 ghost use Rattle.sets.specs.Ascending.{ascend_from};
 ghost use Rattle.sets.specs.ListRecords.{passes, members, Ascends, RestIsZero};
@@ -40,7 +40,7 @@ fn ascends(numbers: &[u8]) -> bool
 }
 
 // Where a method has clauses of its own, they repeat the trait's and add that what is written passes the check and
-// holds 0 in the items that are not used.
+// holds 0 in the items that are not used. A number that is too great alters nothing, unless the record fails the check.
 impl SmallSet for ListRecord {
     const W: u16 = 64;
 
@@ -66,7 +66,8 @@ impl SmallSet for ListRecord {
         ensures members { (k : ℕ) → members self.new k ≡ with_member 64 n (members self.old) k }
         ensures grew { result ≡ (nat_lt n 64 && not (members self.old n)) }
         ensures passes { IsTrue (passes self.new) }
-        ensures rest { RestIsZero self.new }
+        ensures rest { n < 64 → RestIsZero self.new }
+        ensures unaltered { 64 ≤ n → IsTrue (passes self.old) → self.new ≡ self.old }
     {
         let list = AscendingList::of_record(*self);
         let grows = n < Self::W && !list.contains(n);

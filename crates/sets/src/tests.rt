@@ -105,6 +105,6 @@ fn unused_items(rt: HostRuntime) {
     assert!(rt; two.items.iter().skip(2).all(|x| *x == 0));
     let mut one = once;
     assert!(rt; !one.insert(64));
-    assert!(rt; one.len == 1 && one.items.iter().skip(1).all(|x| *x == 0));
+    assert!(rt; one.len == 1 && one.items.iter().all(|x| *x == 5));
     assert!(rt; once.union(&once).items.iter().skip(1).all(|x| *x == 0));
 }
