@@ -2,7 +2,7 @@
 use Rattle.std.proofs.Common.{◌≡◌, ℕ, ◌+◌, ◌<◌, ◌≤◌, ◌≢◌, List, length, get_or, Some, sym, refl, ap, ◌∙◌, subst, subst₂, add-one, arith, below_more}
 use Rattle.search.specs.declared.queue.Queue.{Queue}
 use Rattle.search.specs.Walks.{From, stay, step}
-use Rattle.search.specs.Visits.{node_at, distance_at, Walked, Near, Led, SameMemory, Grown, Saw, SawFirst, Popped, Visiting}
+use Rattle.search.specs.Visits.{node_at, distance_at, Walked, Near, Led, SameMemory, Grown, Saw, SawFirst, Popped}
 use Rattle.search.proofs.Joining.{place_of}
 
 grown_none : (q : Queue) → Grown q q
@@ -33,10 +33,6 @@ saw_again q node d inn near s =
       near = near;
       led = let t = place_of q.queued node inn s in subst (λ v. get_or q.distance.now v 0 ≤ d) t.2 (near t.0 t.1);
     }
-
-pub saw_none : (q : Queue) (nodes : List ℕ) (d : ℕ) → Near q d → SawFirst 0 nodes d q q
-saw_none q nodes d near =
-    record { grown = grown_none q; walks = λ nbr starts w ws. ws; near = near; led = λ j h. absurd (omega arith) }
 
 pub saw_more : {q q₁ q₂ : Queue} (i : ℕ) (nodes : List ℕ) (d : ℕ) → d < 65535 → i < length nodes → SawFirst i nodes d q q₁ → Saw (get_or nodes i 0) d q₁ q₂ → SawFirst (i + 1) nodes d q q₂
 saw_more {q₂ = q₂} i nodes d few h w s =
@@ -73,12 +69,6 @@ going_none nbr starts unvisited empty w =
     }
 
 module _ {nbr : ℕ → List ℕ} {starts : List ℕ} {q q₁ : Queue} {node : ℕ} (g : Going nbr starts q) (popped : Popped q (Some node) q₁) where
-  -- the node that was taken is ready to be visited
-  pub next : Visiting q₁ node
-  next =
-      subst₂ Visiting (sym popped.2) (sym popped.1)
-      (let v : Visiting (record q { head = q.head + 1 }) (node_at q q.head) = record { queued = (q.head, popped.0, refl); near = g.near popped.0 } in v)
-
   pub kept : {q₀ q₂ : Queue} → SameMemory q₀ q → Grown q₁ q₂ → SameMemory q₀ q₂
   kept {q₀} {q₂} m grown =
       let w = subst (λ q. Grown q q₂) popped.2 grown in
