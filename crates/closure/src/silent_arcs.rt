@@ -33,6 +33,7 @@ impl SilentArcs {
     }
 
     /// Whether an arc leads from the one stage to the other.
+    #[tactic(auto, using(crate::proofs::Arcs::contains_row))]
     pub fn contains(&self, from: u16, to: u16) -> bool
         ensures { result ≡ has_arc self.now from to }
     {
@@ -82,6 +83,7 @@ impl Graph for SilentArcs {
 
     // Every stage has 256 places, so that a neighbour is read at once. No shortest walk takes a place that leads back
     // to its own stage.
+    #[tactic(auto, using(crate::proofs::Arcs::neighbour_at))]
     fn neighbour(&self, node: u16, place: u16) -> Option<u16> {
         (place < STAGES).then_some(self.leads(node, place))
     }
