@@ -1,15 +1,19 @@
 -- Rows of bits as silent arcs. Assumes nothing.
-use Rattle.std.proofs.Common.{◌≡◌, ℕ, ◌+◌, ◌<◌, ◌≤◌, Bool, true, false, not, ◌&&◌, ◌||◌, eqb, ltb, List, map, length, get_or, set, replicate, Some, None, Option, sym, ap, ◌∙◌, ap₂, ⊎_elim, arith}
+use Rattle.std.proofs.Common.{◌≡◌, ℕ, ◌<◌, ◌≤◌, Bool, true, false, not, ◌&&◌, ltb, List, map, length, get_or, set, replicate, Some, None, Option, MatchOption, sym, ap, ◌∙◌, ap₂, ⊎_elim, arith}
 use Rattle.std.specs.List.{slice_get}
+use Rattle.std.specs.Bool.{then_some}
+use Rattle.std.specs.Slice.{IsItemAt}
+use Rattle.std.specs.Borrow.{Bor}
+use Rattle.sets.specs.contracts.bit_row.BitRowSmallSet.TheImpl.Laws.{below-law}
 use Rattle.std.proofs.lemmas.List.{get_or-set_same, get_or-set_other, get_or-replicate, get_or-map, map-set, length-map, length-replicate}
 use Rattle.std.proofs.lemmas.Option.{slice_get-get_or, slice_get_past}
-use Rattle.std.proofs.lemmas.Bool.{lt-ltb, le-ltb, cases_lt, cases_eq, and_parts, and_left, and_right, ltb-true}
+use Rattle.std.proofs.lemmas.Bool.{lt-ltb, le-ltb, cases_lt, cases_eq, and_parts, and_left, and_right, false_from_ne_true, ltb-true}
 use Rattle.std.proofs.lemmas.Bool.Decides.{nat_tests}
 use Rattle.sets.specs.Members.{with_member}
 use Rattle.sets.specs.BitRows.{members}
 use Rattle.sets.specs.declared.bit_row.BitRow.{BitRow}
 use Rattle.closure.specs.Neighbours.{leads, neighbours_in, places, at_place}
-use Rattle.closure.specs.Silent.{arc_in, with_arc, reached_in}
+use Rattle.closure.specs.Silent.{arc_in, with_arc}
 
 -- whether v is in row u
 abbrev in_row_at : List BitRow → ℕ → ℕ → Bool
@@ -30,21 +34,29 @@ pub arc_beyond : (rows : List BitRow) (u v : ℕ) → 256 ≤ v → arc_in rows 
 unfolding arc_in
 arc_beyond rows u v h = and_left (ltb u 256 && ltb v 256) (in_row_at rows u v) (and_right (ltb u 256) (ltb v 256) (le-ltb v 256 h))
 
+-- what is said of row u, if there is one, is said of the arcs from u
+pub contains_row : (rows : List BitRow) (u v : ℕ) (r : Bool) (o : Option (Bor BitRow)) {P : Bor BitRow → Type 0} → length rows ≡ 256 → IsItemAt rows u o → MatchOption o (r ≡ false) P → ((row : Bor BitRow) → P row → r ≡ members row.now v) → r ≡ arc_in rows u v
+contains_row rows u v r None long at said is = said ∙ sym (arc_out rows u v (omega (arith, at.3)))
+contains_row rows u v r (Some row) long at said is =
+    is row said ∙ ⊎_elim
+    (λ (l : v < 256). ap (λ (x : BitRow). members x v) at.1 ∙ sym (arc_in_lem rows u v row.now long (omega (arith, at.3.0)) l))
+    (λ (l : 256 ≤ v). false_from_ne_true (members row.now v) (λ e. omega (arith, below-law row.now v e)) ∙ sym (arc_beyond rows u v l))
+    (cases_lt v 256)
+
 pub arc_ends : (rows : List BitRow) (u v : ℕ) → arc_in rows u v ≡ true → (u < 256) × (v < 256)
 unfolding arc_in
 arc_ends rows u v h =
     let ends = and_parts (ltb u 256) (ltb v 256) (and_parts (ltb u 256 && ltb v 256) (in_row_at rows u v) h).0 in
     (ltb-true u 256 ends.0, ltb-true v 256 ends.1)
 
--- the same row for every stage
-pub arc_repeated : (row : BitRow) (u v : ℕ) → arc_in (replicate 256 row) u v ≡ ((ltb u 256 && ltb v 256) && members row v)
-unfolding arc_in
-arc_repeated row u v = ⊎_elim
-    (λ (l : u < 256).
-    let long = length-replicate 256 row in
-    ap (λ (p : ℕ → Bool). (ltb u 256 && ltb v 256) && p v)
-    (get_or-map members (replicate 256 row) u row (λ _. false) (omega arith) ∙ ap members (get_or-replicate 256 u row row l)))
-    (λ (l : 256 ≤ u). let e = le-ltb u 256 l in rw e)
+-- no row holds a stage
+pub arc_none : (row : BitRow) → ((v : ℕ) → members row v ≡ false) → (u v : ℕ) → arc_in (replicate 256 row) u v ≡ false
+arc_none row empty u v = ⊎_elim
+    (λ (l : u < 256). ⊎_elim
+    (λ (k : v < 256). arc_in_lem (replicate 256 row) u v row (length-replicate 256 row) l k ∙ ap (λ (x : BitRow). members x v) (get_or-replicate 256 u row row l) ∙ empty v)
+    (λ (k : 256 ≤ v). arc_beyond (replicate 256 row) u v k)
+    (cases_lt v 256))
+    (λ (l : 256 ≤ u). arc_out (replicate 256 row) u v l)
     (cases_lt u 256)
 
 -- rows after one is written
@@ -82,22 +94,8 @@ arc_grew rows from to d r long low is = ⊎_elim
     (cases_lt to 256)
 
 -- what stands at each place of the list of neighbours
-pub place_past : (rows : List BitRow) (u v : ℕ) → 256 ≤ v → ◌≡◌ {A = Option ℕ} None (slice_get (neighbours_in rows u) v)
-place_past rows u v h = sym (slice_get_past (neighbours_in rows u) v (omega (arith, places rows u)))
-
-pub place_is : (rows : List BitRow) (u v x : ℕ) → v < 256 → x ≡ leads rows u v → Some x ≡ slice_get (neighbours_in rows u) v
-place_is rows u v x h e =
-    ap Some (e ∙ sym (at_place rows u v h)) ∙ sym (slice_get-get_or (neighbours_in rows u) v 0 (omega (arith, places rows u)))
-
--- the reached stages below one more
-pub reached_more : (steps : List ℕ) (i v : ℕ) (old new : Bool) → i < 256 → (get_or steps i 0 ≡ 65535 → ⊥) → old ≡ (ltb v i && reached_in steps v) → new ≡ (old || (eqb v i && ltb i 256)) → new ≡ (ltb v (i + 1) && reached_in steps v)
-reached_more steps i v old new h some was is = ⊎_elim
-    (λ (e : v ≡ i). let here : get_or steps v 0 ≡ get_or steps i 0 = ap (λ (x : ℕ). get_or steps x 0) e in grind (arith, nat_tests))
-    (λ (e : v ≡ i → ⊥). grind (arith, nat_tests))
-    (cases_eq v i)
-
-pub reached_not : (steps : List ℕ) (i v : ℕ) (old : Bool) → get_or steps i 0 ≡ 65535 → old ≡ (ltb v i && reached_in steps v) → old ≡ (ltb v (i + 1) && reached_in steps v)
-reached_not steps i v old none was = ⊎_elim
-    (λ (e : v ≡ i). let here : get_or steps v 0 ≡ get_or steps i 0 = ap (λ (x : ℕ). get_or steps x 0) e in grind (arith, nat_tests))
-    (λ (e : v ≡ i → ⊥). grind (arith, nat_tests))
-    (cases_eq v i)
+pub neighbour_at : (rows : List BitRow) (u v x : ℕ) → x ≡ leads rows u v → then_some (ltb v 256) x ≡ slice_get (neighbours_in rows u) v
+neighbour_at rows u v x e = ⊎_elim
+    (λ (l : v < 256). ap (λ (b : Bool). then_some b x) (lt-ltb v 256 l) ∙ ap Some (e ∙ sym (at_place rows u v l)) ∙ sym (slice_get-get_or (neighbours_in rows u) v 0 (omega (arith, places rows u))))
+    (λ (l : 256 ≤ v). ap (λ (b : Bool). then_some b x) (le-ltb v 256 l) ∙ sym (slice_get_past (neighbours_in rows u) v (omega (arith, places rows u))))
+    (cases_lt v 256)

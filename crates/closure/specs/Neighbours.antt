@@ -1,6 +1,6 @@
 -- The silent arcs as a graph: each stage has a place for every stage. The laws of the graph are proved here, and not
 -- in proofs/, since an impl gives them in a ghost member, which may cite specs/ alone. Assumes nothing.
-use Rattle.std.specs.Prelude.{◌≡◌, ℕ, ◌<◌, Bool, true, false, cond, List, map, length, slice_index}
+use Rattle.std.specs.Prelude.{◌≡◌, ℕ, ◌<◌, Bool, true, false, if◌then◌else◌, List, map, length, slice_index}
 use Rattle.std.proofs.Common.{sym, subst, arith}
 use Rattle.std.specs.List.{range_with_len}
 use Rattle.std.proofs.lemmas.List.FromFn.{length-map-range_with_len, get_or-map-range_with_len}
@@ -10,7 +10,7 @@ use Rattle.closure.specs.Silent.{arc_in}
 
 -- where place v of stage u leads: to v if there is such an arc, and else back to u
 abbrev pub leads : List BitRow → ℕ → ℕ → ℕ
-leads rows u v = cond (arc_in rows u v) v u
+leads rows u v = if arc_in rows u v then v else u
 
 -- the neighbours of a stage: 256 places
 unfoldable pub neighbours_in : List BitRow → ℕ → List ℕ
@@ -27,7 +27,7 @@ at_place rows u v h = get_or-map-range_with_len (leads rows u) 0 256 v v 0 h (om
 leads_within : (rows : List BitRow) (u v : ℕ) → u < 256 → v < 256 → leads rows u v < 256
 leads_within rows u v h l = pick (arc_in rows u v)
   where
-    pick : (b : Bool) → cond b v u < 256
+    pick : (b : Bool) → (if b then v else u) < 256
     pick true = l
     pick false = h
 

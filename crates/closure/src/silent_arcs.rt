@@ -21,41 +21,25 @@ pub struct SilentArcs {
     rows: [BitRow; 256],
 }
 
-/// The same row for every stage.
-fn repeated(row: BitRow) -> [BitRow; 256]
-    ensures { (u v : ℕ) → arc_in result u v ≡ ((nat_lt u 256 && nat_lt v 256) && members row v) }
-{
-    [row; 256]
-}
-
+// An arc is given by its two ends, and each is used alone: one picks the row, the other is looked up there.
 impl SilentArcs {
     /// No arcs.
     pub fn new() -> SilentArcs
         ensures { (u v : ℕ) → has_arc result u v ≡ false }
     {
         SilentArcs {
-            rows: repeated(BitRow::empty()),
-        }
-    }
-
-    /// The row of a stage, which is empty for a number that is none.
-    fn row(&self, from: u16) -> BitRow
-        ensures stages { (v : ℕ) → v < 256 → members result v ≡ has_arc self.now from v }
-        ensures beyond { (v : ℕ) → 256 ≤ v → has_arc self.now from v ≡ false }
-    {
-        if from < 256 {
-            self.rows[from as usize]
-        } else {
-            BitRow::empty()
+            rows: [BitRow::empty(); 256],
         }
     }
 
     /// Whether an arc leads from the one stage to the other.
+    #[tactic(auto, using(crate::proofs::Arcs::contains_row))]
     pub fn contains(&self, from: u16, to: u16) -> bool
         ensures { result ≡ has_arc self.now from to }
     {
-        let row = self.row(from);
-        to < 256 && row.contains(to)
+        self.rows
+            .get(from as usize)
+            .is_some_and(|row| row.contains(to))
     }
 
     /// Where place `to` of a stage leads: to stage `to` if there is such an arc, and else back to the stage itself.
@@ -70,13 +54,10 @@ impl SilentArcs {
         ensures arcs { (u v : ℕ) → has_arc self.new u v ≡ with_arc from to (has_arc self.old) u v }
         ensures grew { result ≡ ((nat_lt from 256 && nat_lt to 256) && not (has_arc self.old from to)) }
     {
-        if from >= 256 {
+        if from >= STAGES {
             return false;
         }
-        let mut row = self.rows[from as usize];
-        let grew = row.insert(to);
-        self.rows[from as usize] = row;
-        grew
+        self.rows[from as usize].insert(to)
     }
 
     /// The fewest silent arcs from a start to each stage, or `NO_DISTANCE` where no path leads. Declined just if a
@@ -96,21 +77,18 @@ impl Graph for SilentArcs {
 
     ghost neighbours = { λ g. neighbours_in g.rows };
 
-    ghost lawful = { λ g. lawful_in g.rows };
-
     fn node_count(&self) -> u16 {
         STAGES
     }
 
     // Every stage has 256 places, so that a neighbour is read at once. No shortest walk takes a place that leads back
     // to its own stage.
+    #[tactic(auto, using(crate::proofs::Arcs::neighbour_at))]
     fn neighbour(&self, node: u16, place: u16) -> Option<u16> {
-        if place < 256 {
-            Some(self.leads(node, place))
-        } else {
-            None
-        }
+        (place < STAGES).then_some(self.leads(node, place))
     }
+
+    ghost lawful = { λ g. lawful_in g.rows };
 }
 
 /// The stages that a path leads to, by what `steps_from` answers.
@@ -118,9 +96,9 @@ pub fn reached(steps: &[u16; 256]) -> BitRow
     ensures { (v : ℕ) → members result v ≡ reached_in steps.now v }
 {
     let mut stages = BitRow::empty();
-    for stage in 0..256 {
-        if steps[stage as usize] != NO_DISTANCE {
-            stages.insert(stage);
+    for (stage, fewest) in steps.iter().enumerate() {
+        if *fewest != NO_DISTANCE {
+            stages.insert(stage as u16);
         }
     }
     stages

@@ -1,5 +1,5 @@
 pub mod Unseen
+pub mod Joining
 pub mod Steps
 pub mod Ends
-pub mod Places
 pub mod Telling

@@ -1,3 +1,4 @@
 pub mod Walks
 pub mod Answers
 pub mod Queue
+pub mod Visits

@@ -1,20 +1,24 @@
-//! The search. It queues each node that it sees, in the order of distances, in the working memory.
+//! The search, breadth first: nodes are visited in the order of their distances.
 
-ghost use Rattle.std.specs.Prelude.{◌≡◌, ℕ, ◌+◌, ◌<◌, ◌≤◌, length, Decides, slice_index};
-ghost use Rattle.search.specs.Walks.{Fit, From, Starting, Tells};
+ghost use Rattle.std.specs.Prelude.{◌≡◌, ℕ, ◌+◌, ◌<◌, ◌≤◌, ◌↔◌, length, slice_index, IsTrue, Some, codes};
+ghost use Rattle.search.specs.Walks.{From, Starting, Tells};
 ghost use Rattle.search.specs.Answers.{fault_number, fault_place, Answered};
-ghost use Rattle.search.specs.Queue.{Queued, Joined, Begun, Visiting, Visited, at};
+ghost use Rattle.search.specs.Visits.{SameMemory, Visiting, SawFirst};
 
-use crate::graph::Graph;
+use crate::graph::{Graph, Neighbours};
+use crate::queue::Queue;
+use std::error::Error;
+use std::fmt;
 
-/// What the distance memory holds for a node that no walk reaches.
+/// What the distance memory holds for a node that no walk reaches. The memory is a row of plain numbers: it has no
+/// room for an `Option`.
 pub const NO_DISTANCE: u16 = 65535;
 
-/// Why a search is declined.
-#[derive(Clone, Copy, PartialEq, Eq, Debug)]
+/// Why a search is declined: each fault with its number.
+#[derive(Clone, Copy, Debug, PartialEq, Eq, PartialOrd, Ord, Hash)]
 pub enum SearchFault {
     /// The distance or the working memory is shorter than the nodes, or a start is no node.
-    Unfit,
+    Unfit = 5,
 }
 
 impl SearchFault {
@@ -22,12 +26,10 @@ impl SearchFault {
     pub fn number(&self) -> u8
         ensures { result ≡ fault_number self.now }
     {
-        match self {
-            SearchFault::Unfit => 5,
-        }
+        *self as u8
     }
 
-    /// The place of the fault, which is 0 where a call has no place to tell.
+    /// The place of the fault. Each fault is told by a number and a place, and the place is 0 where there is none to tell.
     pub fn place(&self) -> usize
         ensures { result ≡ fault_place self.now }
     {
@@ -37,87 +39,72 @@ impl SearchFault {
     }
 }
 
-/// Whether each start is a node.
-fn all_nodes(starts: &[u16], nodes: u16) -> bool
-    ensures { Decides result (Starting nodes starts.now) }
-{
-    for start in starts {
-        if *start >= nodes {
-            return false;
+impl fmt::Display for SearchFault {
+    ghost output = { λ _. Some (codes "memory is too short or a start is no node") };
+
+    fn fmt<W: fmt::Write>(&self, f: &mut fmt::Formatter<W>) -> fmt::Result {
+        match self {
+            SearchFault::Unfit => write!(f, "memory is too short or a start is no node"),
         }
     }
-    true
 }
 
-/// Takes every node for not seen.
-fn clear(distance: &mut [u16])
-    ensures { (v : ℕ) → v < length distance.old → slice_index distance.new v ≡ 65535 }
+impl Error for SearchFault {}
+
+/// Whether each start is a node.
+fn all_nodes(starts: &[u16], nodes: u16) -> bool
+    ensures { IsTrue result ↔ Starting nodes starts.now }
 {
-    for place in distance.iter_mut() {
-        *place = NO_DISTANCE;
+    starts.iter().all(|start| *start < nodes)
+}
+
+/// Sees the neighbours of a node of the queue.
+fn visit<G: Graph>(graph: &G, queue: &mut Queue, node: u16)
+    requires nodes { length queue.old.distance.now ≡ G.nodes graph.now }
+    requires visiting { Visiting queue.old node }
+    ensures { let all = G.neighbours graph.now node in
+        SawFirst (length all) all (slice_index queue.old.distance.now node + 1) queue.old queue.new }
+{
+    let far = queue.distance[node as usize] + 1;
+    for neighbour in Neighbours::of(graph, node) {
+        queue.see(neighbour, far);
     }
 }
 
-/// Sees a node: unless it was seen before, it gets its distance and a place at the end of the queue. Answers the new
-/// end of the queue.
-fn see(distance: &mut [u16], work: &mut [u16], tail: usize, node: u16, far: u16) -> usize
-    requires { (node < length distance.old) × (Queued distance.old work.old tail) }
-    ensures { Joined distance.old work.old tail node far distance.new work.new result }
+/// Visits every node that a walk from a start leads to.
+fn visit_all<G: Graph>(graph: &G, starts: &[u16], queue: &mut Queue)
+    requires nodes { length queue.old.distance.now ≡ G.nodes graph.now }
+    requires starting { Starting (G.nodes graph.now) starts.now }
+    requires unvisited { queue.old.head ≡ 0 }
+    requires empty { queue.old.tail ≡ 0 }
+    ensures memory { SameMemory queue.old queue.new }
+    ensures told { (v : ℕ) → v < G.nodes graph.now
+        → Tells (From (G.neighbours graph.now) starts.now v) (slice_index queue.new.distance.now v) }
 {
-    if distance[node as usize] == NO_DISTANCE {
-        distance[node as usize] = far;
-        work[tail] = node;
-        tail + 1
-    } else {
-        tail
-    }
-}
-
-/// Queues the starts.
-fn begin(starts: &[u16], distance: &mut [u16], work: &mut [u16]) -> usize
-    requires { (length distance.old ≤ 4096) × (Fit (length distance.old) starts.now distance.old work.old) }
-    ensures { Begun starts.now distance.new work.new result }
-{
-    clear(distance);
-    let mut tail = 0;
     for start in starts {
-        tail = see(distance, work, tail, *start, 0);
+        queue.see(*start, 0);
     }
-    tail
-}
-
-/// Sees the neighbours of the node at place `head` of the queue.
-fn visit<G: Graph>(
-    graph: &G,
-    distance: &mut [u16],
-    work: &mut [u16],
-    head: usize,
-    mut tail: usize,
-) -> usize
-    requires { (G.nodes graph.now ≡ length distance.old) × (Visiting distance.old work.old head tail) }
-    ensures { Visited (G.neighbours graph.now) (slice_index work.old head) (at distance.old work.old head + 1) (length (G.neighbours graph.now (slice_index work.old head))) distance.old work.old tail distance.new work.new result }
-{
-    let node = work[head];
-    let far = distance[node as usize] + 1;
-    let mut place = 0;
-    while let Some(neighbour) = graph.neighbour(node, place) {
-        tail = see(distance, work, tail, neighbour, far);
-        place += 1;
+    while let Some(node) = queue.pop() {
+        visit(graph, queue, node);
     }
-    tail
 }
 
 /// Gives each node its distance.
 fn explore<G: Graph>(graph: &G, starts: &[u16], distance: &mut [u16], work: &mut [u16])
-    requires { (G.nodes graph.now ≡ length distance.old) × (Fit (length distance.old) starts.now distance.old work.old) }
-    ensures { (v : ℕ) → v < length distance.old → Tells (From (G.neighbours graph.now) starts.now v) (slice_index distance.new v) }
+    requires nodes { length distance.old ≡ G.nodes graph.now }
+    requires room { length distance.old ≤ length work.old }
+    requires starting { Starting (G.nodes graph.now) starts.now }
+    ensures { (v : ℕ) → v < G.nodes graph.now
+        → Tells (From (G.neighbours graph.now) starts.now v) (slice_index distance.new v) }
 {
-    let mut tail = begin(starts, distance, work);
-    let mut head = 0;
-    while head < tail {
-        tail = visit(graph, distance, work, head, tail);
-        head += 1;
-    }
+    distance.fill(NO_DISTANCE);
+    let mut queue = Queue {
+        distance,
+        nodes: work,
+        head: 0,
+        tail: 0,
+    };
+    visit_all(graph, starts, &mut queue);
 }
 
 /// Leaves at each node's place of `distance` the number of arcs on a shortest walk from a start, or `NO_DISTANCE` if
@@ -137,6 +124,6 @@ pub fn search<G: Graph>(
     if count > distance.len() || count > work.len() || !all_nodes(starts, nodes) {
         return Err(SearchFault::Unfit);
     }
-    explore(graph, starts, &mut distance[0..count], work);
+    explore(graph, starts, &mut distance[..count], work);
     Ok(())
 }

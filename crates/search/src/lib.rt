@@ -6,3 +6,4 @@
 
 pub mod breadth_first;
 pub mod graph;
+mod queue;

@@ -1,35 +1,20 @@
-use Rattle.std.proofs.Common.{◌+◌, get_or, subst, arith}
-use Rattle.search.specs.Queue.{Joined, at}
-use Rattle.search.proofs.Places.{answered, nth_none}
-use Rattle.search.proofs.Steps.{visited_more, visited_all}
+use Rattle.std.proofs.Common.{◌+◌, ◌<◌, length, get_or, drop, sym, ◌∙◌, subst, rules}
+use Rattle.std.proofs.lemmas.List.{length_push}
+use Rattle.std.proofs.lemmas.Grind.{get_or_default_zero}
+use Rattle.std.proofs.lemmas.Iterator.Consumers.{YieldsList-from_first, YieldsList-turn}
+use Rattle.search.specs.Visits.{Saw, SawFirst}
+use Rattle.search.proofs.Steps.{few, saw_more}
 use Rattle.search.proofs.breadth_first.visit.Goals as goal
-
-pub see-tail-requires : goal.see-tail-requires
-see-tail-requires g c =
-    let a = answered (g.G.Graph.lawful c.args.graph.now) c.args.distance.now c.args.work.now c.args.head c.args.tail c.requires.0 c.requires.1 c.loop-neighbour.place c.in-Some.neighbour c.in-Some.ensures in
-    (omega (arith, c.requires.0, a.node, c.loop-neighbour.auto.distance), c.loop-neighbour.invariant.queue)
-
-pub overflow_add-place : goal.overflow_add-place
-overflow_add-place g c =
-    let a = answered (g.G.Graph.lawful c.args.graph.now) c.args.distance.now c.args.work.now c.args.head c.args.tail c.requires.0 c.requires.1 c.loop-neighbour.place c.in-Some.neighbour c.in-Some.ensures in
-    omega (arith, a.early)
-
-pub loop-neighbour-smaller : goal.loop-neighbour-smaller
-loop-neighbour-smaller g c =
-    let a = answered (g.G.Graph.lawful c.args.graph.now) c.args.distance.now c.args.work.now c.args.head c.args.tail c.requires.0 c.requires.1 c.loop-neighbour.place c.in-Some.neighbour c.in-Some.ensures in
-    omega (arith, a.here)
 
 pub loop-neighbour-preserved : goal.loop-neighbour-preserved
 loop-neighbour-preserved g c =
-    let nbr = g.G.Graph.neighbours c.args.graph.now in
-    let dist = c.args.distance.now in
-    let work = c.args.work.now in
-    let head = c.args.head in
-    let a = answered (g.G.Graph.lawful c.args.graph.now) dist work head c.args.tail c.requires.0 c.requires.1 c.loop-neighbour.place c.in-Some.neighbour c.in-Some.ensures in
-    visited_more nbr dist work head c.args.tail c.loop-neighbour.place c.requires.1 a.here (omega (arith, c.requires.0, a.node, a.is, c.loop-neighbour.auto.distance)) c.loop-neighbour.invariant
-    (subst (λ n. Joined c.loop-neighbour.distance c.loop-neighbour.work c.loop-neighbour.tail n (at dist work head + 1) c.see-tail.new.distance c.see-tail.new.work c.see-tail.result) a.is c.see-tail.ensures)
-
-pub returns : goal.returns
-returns g c =
-    let nbr = g.G.Graph.neighbours c.args.graph.now in
-    visited_all (nth_none (nbr (get_or c.args.work.now c.args.head 0)) c.loop-neighbour.place c.in_default.ensures) c.loop-neighbour.invariant
+    let q = c.args.queue.now in
+    let all = g.G.Graph.neighbours c.args.graph.now c.args.node in
+    let far = get_or q.distance.now c.args.node 0 + 1 in
+    let seen = c.loop-neighbour.yielded in
+    let node = c.in-Some.neighbour in
+    let at = YieldsList-turn (YieldsList-from_first (λ n. n) (λ it. drop it.place (g.G.Graph.neighbours it.graph.now it.node)) all (search rules)) seen c.loop-neighbour.neighbour-iterator c.loop-neighbour.yielded_by c.next.result c.next.new.self node c.in-Some.is c.next.ensures.steps in
+    let saw : Saw (get_or all (length seen) 0) far c.loop-neighbour.queue c.see.new.self = subst (λ n. Saw n far c.loop-neighbour.queue c.see.new.self) (at.1 ∙ get_or_default_zero all (length seen) node at.0) c.see.ensures in
+    let place = c.requires.visiting.queued in
+    let small : far < 65535 = subst (λ n. get_or q.distance.now n 0 + 1 < 65535) place.2 (few q place.0 place.1) in
+    subst (λ i. SawFirst i all far q c.see.new.self) (sym (length_push seen node)) (saw_more (length seen) all far small at.0 c.loop-neighbour.invariant saw)
