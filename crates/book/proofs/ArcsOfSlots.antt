@@ -1,12 +1,12 @@
 -- The arcs of a stage and the number of arcs, by the meaning of the book and by its slots.
 use Rattle.std.proofs.Common.{◌≡◌, ℕ, zero, suc, ◌+◌, ◌<◌, Bool, true, false, cond, ◌&&◌, ◌||◌, eqb, leb, ◌⊎◌, List, [], ◌∷◌, Some, None, Option, is_some, count_by, length, get_or, sym, refl, ap, ◌∙◌, inl, inr, arith}
 use Rattle.std.specs.List.{list_any}
-use Rattle.std.proofs.lemmas.Bool.{true≢false, false≢true, eqb-true, eq-eqb, leb-true, and_parts, and_from, or_cases}
+use Rattle.std.proofs.lemmas.Bool.{true≢false, false≢true, eqb-true, eq-eqb, leb-true, and_parts, and_from, or_cases, or_left, or_right, false_from_ne_true}
 use Rattle.std.proofs.lemmas.List.Folds.{list_any_at, Any-from_list_any, list_any-from_Any}
 use Rattle.std.proofs.lemmas.List.Sums.{sum_by-cons}
 use Rattle.rules.specs.declared.change.Arc.{Arc}
 use Rattle.rules.specs.Rules.{any_below, sum_below}
-use Rattle.rules.proofs.Booleans.{or_left, or_right, bool_ext, not_so}
+use Rattle.rules.proofs.Booleans.{both}
 use Rattle.rules.proofs.Below.{any_some, some_any, sum_add, sum_same, sum_zero, sum_one}
 use Rattle.book.specs.Slots.{here, touches, arcs_in, joined, tally, Once, proper, Fit}
 use Rattle.book.proofs.SlotWrites.{counted_none, bit_one, bit_none, same_arc, arc_same}
@@ -42,7 +42,7 @@ proper_parts live E a h =
 -- a stage has arcs by the meaning exactly if a slot holds one
 pub joined_is : (live : ℕ → Bool) (E : ℕ) (ss : List (Option Arc)) (n : ℕ) → Fit live E ss → ((k : ℕ) → live k ≡ true → k < 256) →
     any_below 256 (λ m. live m && any_below (suc E) (λ e. arcs_in ss n e m || arcs_in ss m e n)) ≡ joined ss n
-joined_is live E ss n f low = bool_ext (any_below 256 (λ m. live m && any_below (suc E) (λ e. arcs_in ss n e m || arcs_in ss m e n))) (joined ss n) there back
+joined_is live E ss n f low = both (any_below 256 (λ m. live m && any_below (suc E) (λ e. arcs_in ss n e m || arcs_in ss m e n))) (joined ss n) (there, back)
   where
     leaves : (m e : ℕ) (s : Option Arc) → here n e m s ≡ true → touches n s ≡ true
     leaves m e None h = absurd (false≢true h)
@@ -153,7 +153,7 @@ counted_slot live E (Some a) low p =
     there m e n = here m e n (Some a)
 
     elsewhere : (m e n : ℕ) → ((m ≡ a.from) × (e ≡ a.label) × (n ≡ a.to) → ⊥) → here m e n (Some a) ≡ false
-    elsewhere m e n d = not_so (here m e n (Some a)) (λ h. d (same_arc m e n a.from a.label a.to h))
+    elsewhere m e n d = false_from_ne_true (here m e n (Some a)) (λ h. d (same_arc m e n a.from a.label a.to h))
 
 pub tally_is : (live : ℕ → Bool) (E : ℕ) (ss : List (Option Arc)) → ((k : ℕ) → live k ≡ true → k < 256) → Fit live E ss → Once ss →
     counted live E (arcs_in ss) ≡ tally ss
