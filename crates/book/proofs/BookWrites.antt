@@ -1,17 +1,15 @@
--- What each change of an arc does to a book record: its meaning, and what is true of every book.
-use Rattle.std.proofs.Common.{◌≡◌, ℕ, zero, suc, ◌+◌, ◌-◌, ◌<◌, ◌≤◌, Bool, true, false, cond, eqb, ◌⊎◌, List, Some, None, Option, count_by, length, get_or, set, replicate, sym, refl, ap, ◌∙◌, inl, inr, arith, length-set, get_or-set_other}
+-- What a book record means: the arcs of a stage, the number of arcs, and the fresh book.
+use Rattle.std.proofs.Common.{◌≡◌, ℕ, zero, suc, ◌<◌, ◌≤◌, Bool, true, false, cond, eqb, ◌⊎◌, List, None, Option, count_by, length, get_or, set, replicate, sym, refl, ap, ◌∙◌, inl, inr, arith, length-set, get_or-set_other}
 use lib.ListN.{length-replicate}
-use Rattle.std.proofs.lemmas.Bool.{false≢true, eq-eqb, ne_eqb, le-leb, and_from, cases_eq, cases_lt}
+use Rattle.std.proofs.lemmas.Bool.{false≢true, eq-eqb, ne_eqb, cases_eq, cases_lt}
 use Rattle.std.proofs.lemmas.List.{get_or_past}
 use Rattle.rules.specs.declared.change.Arc.{Arc}
 use Rattle.rules.specs.Rules.{Rules, fresh, has_any_arc, standing}
-use Rattle.rules.specs.Changes.{put_arc}
 use Rattle.book.specs.declared.record.Stage.{Stage}
 use Rattle.book.specs.declared.record.Book.{Book}
 use Rattle.book.specs.Slots.{here, arcs_in, joined, tally, proper}
 use Rattle.book.specs.Consistency.{Consistent, no_stage, live_in, mark_in}
 use Rattle.book.specs.Records.{rules_of}
-use Rattle.book.proofs.SlotWrites.{set_adds, set_cuts, tally_adds, tally_cuts, once_adds, once_cuts, fit_set}
 use Rattle.book.proofs.ArcsOfSlots.{joined_is, tally_is}
 
 pub low_live : (l : List Stage) → length l ≡ 256 → (k : ℕ) → live_in l k ≡ true → k < 256
@@ -27,42 +25,6 @@ joined_meant b n = joined_is (live_in b.stages) b.events b.arcs n b.consistent.2
 pub standing_meant : (b : Book) → standing (rules_of b) ≡ tally b.arcs
 standing_meant b = tally_is (live_in b.stages) b.events b.arcs (low_live b.stages b.consistent.1.0) b.consistent.2.2 b.consistent.2.1
 
-pub arc_meant : (E : ℕ) (l : List Stage) (ss : List (Option Arc)) (i : ℕ) (x : Arc) → i < length ss → get_or ss i None ≡ None →
-    ◌≡◌ {A = Rules} (record { events = E; live = live_in l; mark = mark_in l; arc = arcs_in (set ss i (Some x)) })
-    (record { events = E; live = live_in l; mark = mark_in l; arc = put_arc (arcs_in ss) x.from x.label x.to true })
-arc_meant E l ss i x lt h = λ j. record { events = E; live = live_in l; mark = mark_in l; arc = λ a b c. set_adds ss i x a b c lt h j }
-
-pub cut_meant : (E : ℕ) (l : List Stage) (ss : List (Option Arc)) (c i : ℕ) (x : Arc) → Consistent E l ss c → i < length ss → get_or ss i None ≡ Some x →
-    ◌≡◌ {A = Rules} (record { events = E; live = live_in l; mark = mark_in l; arc = arcs_in (set ss i None) })
-    (record { events = E; live = live_in l; mark = mark_in l; arc = put_arc (arcs_in ss) x.from x.label x.to false })
-cut_meant E l ss c i x s lt h = λ j. record { events = E; live = live_in l; mark = mark_in l; arc = λ a b c. set_cuts ss i x a b c lt h s.2.1 j }
-
-pub consistent_arc : (E : ℕ) (l : List Stage) (ss : List (Option Arc)) (c i : ℕ) (x : Arc) → Consistent E l ss c → i < length ss → get_or ss i None ≡ None →
-    arcs_in ss x.from x.label x.to ≡ false → live_in l x.from ≡ true → live_in l x.to ≡ true → x.label ≤ E → Consistent E l (set ss i (Some x)) (c + 1)
-consistent_arc E l ss c i x s lt h a p q r = (
-  s.0,
-  s.1,
-  (
-    length-set ss i (Some x) ∙ s.2.0,
-    once_adds ss i x lt h a s.2.1,
-    fit_set (live_in l) E ss i (Some x) lt s.2.2 (and_from (live_in l x.from) _ p (and_from (live_in l x.to) _ q (le-leb x.label E r))),
-    omega (arith, s.2.3, tally_adds ss i x lt h),
-  ),
-)
-
-pub consistent_cut : (E : ℕ) (l : List Stage) (ss : List (Option Arc)) (c i : ℕ) (x : Arc) → Consistent E l ss c → i < length ss → get_or ss i None ≡ Some x →
-    Consistent E l (set ss i None) (c - 1)
-consistent_cut E l ss c i x s lt h = (
-  s.0,
-  s.1,
-  (
-    length-set ss i None ∙ s.2.0,
-    once_cuts ss i lt s.2.1,
-    fit_set (live_in l) E ss i None lt s.2.2 refl,
-    omega (arith, s.2.3, tally_cuts ss i x lt h),
-  ),
-)
-
 -- the fresh book
 get_or_all : {A : Type 0} (n k : ℕ) (v : A) → get_or (replicate n v) k v ≡ v
 get_or_all zero k v = refl
@@ -76,30 +38,14 @@ first_stage = record { live = true; mark = 0 }
 abbrev pub FreshStages : List Stage → Type 0
 FreshStages l = l ≡ set (replicate 256 no_stage) 0 first_stage
 
-fresh_stage : (l : List Stage) → FreshStages l → (k : ℕ) → get_or l k no_stage ≡ cond (eqb k 0) first_stage no_stage
-fresh_stage l x k = ap (λ v. get_or v k no_stage) x ∙ go (cases_eq k 0)
-  where
-    go : (k ≡ 0) ⊎ (k ≡ 0 → ⊥) → get_or (set (replicate 256 no_stage) 0 first_stage) k no_stage ≡ cond (eqb k 0) first_stage no_stage
-    go (inl e) =
-        ap (λ j. get_or (set (replicate 256 no_stage) 0 first_stage) j no_stage) e ∙ sym (ap (λ (v : Bool). cond v first_stage no_stage) (eq-eqb k 0 e))
-    go (inr d) =
-        get_or-set_other (replicate 256 no_stage) 0 k first_stage no_stage d
-        ∙ get_or_all 256 k no_stage
-        ∙ sym (ap (λ (v : Bool). cond v first_stage no_stage) (ne_eqb k 0 d))
-
 fresh_live : (l : List Stage) → FreshStages l → (k : ℕ) → live_in l k ≡ eqb k 0
-fresh_live l x k = ap (λ (s : Stage). s.live) (fresh_stage l x k) ∙ go (eqb k 0)
-  where
-    go : (v : Bool) → (cond v first_stage no_stage).live ≡ v
-    go true = refl
-    go false = refl
+fresh_live l x zero = ap (λ v. live_in v 0) x
+fresh_live l x (suc k) =
+    ap (λ v. live_in v (suc k)) x ∙ ap (λ (s : Stage). s.live) (get_or_all 255 k no_stage) ∙ sym (ne_eqb (suc k) 0 (λ e. omega (arith, e)))
 
 fresh_mark : (l : List Stage) → FreshStages l → (k : ℕ) → mark_in l k ≡ 0
-fresh_mark l x k = ap (λ (s : Stage). s.mark) (fresh_stage l x k) ∙ go (eqb k 0)
-  where
-    go : (v : Bool) → (cond v first_stage no_stage).mark ≡ 0
-    go true = refl
-    go false = refl
+fresh_mark l x zero = ap (λ v. mark_in v 0) x
+fresh_mark l x (suc k) = ap (λ v. mark_in v (suc k)) x ∙ ap (λ (s : Stage). s.mark) (get_or_all 255 k no_stage)
 
 pub consistent_fresh : (E : ℕ) (l : List Stage) (ss : List (Option Arc)) → 1 ≤ E → E ≤ 15 → FreshStages l → ss ≡ replicate 1024 None → Consistent E l ss 0
 consistent_fresh E l ss p q x z = (
