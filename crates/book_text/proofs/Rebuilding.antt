@@ -11,8 +11,8 @@ use Rattle.book.proofs.SlotWrites.{same_arc, arc_same, bit_one, bit_none}
 use Rattle.rules.proofs.Below.{sum_le, sum_lt}
 use Rattle.rules.proofs.Faults.{Fine, ends_fine, arc_first, stage_free, mark_free}
 use Rattle.rules.specs.Listing.{each_below}
-use Rattle.book_text.specs.Canonical.{stage_change, stage_changes, Ascending, CanonicalChanges}
-use Rattle.book_text.proofs.Unique.{before_itself}
+use Rattle.book_text.specs.Canonical.{stage_change, stage_changes, Ascending, CanonicalChanges, CanonicalLaws}
+use Rattle.book_text.proofs.Unique.{before_itself, one_text}
 
 pub leads_append : (W : ℕ) (xs ys : List Change) (a b c : Rules) → Leads W xs a b → Leads W ys b c → Leads W (xs ++ ys) a c
 leads_append W [] ys a b c p q = subst (λ (r : Rules). Leads W ys r c) (sym p) q
@@ -278,3 +278,6 @@ rebuilt W b changes wide g q =
     let arcs = arcs_made W b wide g q.arcs stages.0 (ascending_single q.arcs q.in_order.ascending) (λ x. (q.in_order.exactly x).0) arced in
     let all = leads_append W (stage_changes b) (map Arc q.arcs) (fresh b.events) stages.0 arcs.0 stages.1 arcs.1 in
     (arcs.0, subst (λ (chs : List Change). Leads W chs (fresh b.events) arcs.0) (sym q.are) all, arced_alike W b wide g arcs.0 arcs.2)
+
+pub canonical_laws : CanonicalLaws
+canonical_laws = record { rebuilds = rebuilt; one = one_text }
