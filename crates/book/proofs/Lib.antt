@@ -1,5 +1,5 @@
 pub mod SlotWrites
 pub mod ArcsOfSlots
 pub mod BookWrites
-pub mod ArcFaults
+pub mod ArcChanges
 pub mod WellFormedBooks

@@ -6,7 +6,7 @@ use Rattle.std.proofs.lemmas.List.Sums.{sum_by-cons, sum_by-set}
 use Rattle.std.proofs.lemmas.List.Quantifiers.{position-Some}
 use Rattle.std.proofs.lemmas.Iterator.Adapters.{position_from-zero}
 use Rattle.rules.specs.declared.change.Arc.{Arc}
-use Rattle.rules.proofs.Options.{some_none}
+use Rattle.std.proofs.lemmas.Option.{none-some}
 use Rattle.book.specs.Slots.{here, arcs_in, tally, Once, proper, Fit, same_slot}
 
 pub bit_one : (v : Bool) → v ≡ true → cond {A = ℕ} v 1 0 ≡ 1
@@ -112,7 +112,7 @@ none_from p i (x ∷ xs) h = go (p x) h (none_from p (i + 1) xs)
   where
     go : (v : Bool) → cond v (Some i) (position_from p (i + 1) xs) ≡ None → (position_from p (i + 1) xs ≡ None → list_any p xs ≡ false) →
         (v || list_any p xs) ≡ false
-    go true e r = absurd (some_none e)
+    go true e r = absurd (none-some _ (sym e))
     go false e r = r e
 
 pub place_none : {X : Type 0} (p : X → Bool) (xs : List X) → position p xs ≡ None → list_any p xs ≡ false

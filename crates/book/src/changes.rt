@@ -72,7 +72,6 @@ impl Book {
 
     #[tactic(auto, using(crate::proofs::BookWrites::joined_meant))]
     fn drop_stage(&mut self, bound: u16, stage: u16) -> Result<(), BookFault>
-        requires { bound ≤ 256 }
         ensures { ChangePost bound self.old (Dropped stage) result self.new }
     {
         if stage >= bound {
@@ -106,7 +105,6 @@ impl Book {
     }
 
     fn add_arc(&mut self, bound: u16, arc: Arc) -> Result<(), BookFault>
-        requires { bound ≤ 256 }
         ensures { ChangePost bound self.old (Added arc) result self.new }
     {
         self.check_ends(bound, arc)?;
@@ -120,7 +118,6 @@ impl Book {
     }
 
     fn cut_arc(&mut self, bound: u16, arc: Arc) -> Result<(), BookFault>
-        requires { bound ≤ 256 }
         ensures { ChangePost bound self.old (Cut arc) result self.new }
     {
         self.check_ends(bound, arc)?;

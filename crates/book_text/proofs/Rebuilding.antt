@@ -1,19 +1,18 @@
 -- A fresh book takes the canonical changes, and is then alike.
 use Rattle.std.proofs.Common.{◌≡◌, ℕ, zero, suc, ◌<◌, ◌≤◌, Bool, true, false, cond, not, ◌&&◌, eqb, ◌⊎◌, List, [], ◌∷◌, ◌++◌, map, sym, refl, ap, ◌∙◌, subst, inl, inr, arith}
-use Rattle.std.proofs.lemmas.Bool.{false≢true, both_ways, eqb-true, eqb-false, eq-eqb, ne_eqb, lt-ltb, cases_eq, cases_lt, cases_Bool}
+use Rattle.std.proofs.lemmas.Bool.{false≢true, both_ways, eqb-true, eqb-false, eq-eqb, ne_eqb, lt-ltb, cases_eq, cases_lt, cases_Bool, false_from_ne_true}
 use Rattle.rules.specs.declared.change.Arc.{Arc as AnArc}
 use Rattle.rules.specs.declared.change.Change.{Change}
 use Rattle.rules.specs.declared.change.Change.TheVariants.{Stage, Arc, Mark}
 use Rattle.rules.specs.Rules.{Rules, Alike, WellFormed, fresh, sum_below, arcs_from, standing}
 use Rattle.rules.specs.Changes.{put, put_arc, changed, Leads}
 use Rattle.rules.specs.Counts.{Among, NoRepeat}
-use Rattle.rules.proofs.Booleans.{not_so}
 use Rattle.book.proofs.SlotWrites.{same_arc, arc_same, bit_one, bit_none}
 use Rattle.rules.proofs.Below.{sum_le, sum_lt}
 use Rattle.rules.proofs.Faults.{Fine, ends_fine, arc_first, stage_free, mark_free}
 use Rattle.rules.specs.Listing.{each_below}
-use Rattle.book_text.specs.Canonical.{stage_change, stage_changes, Ascending, CanonicalChanges}
-use Rattle.book_text.proofs.Unique.{before_itself}
+use Rattle.book_text.specs.Canonical.{stage_change, stage_changes, Ascending, CanonicalChanges, CanonicalLaws}
+use Rattle.book_text.proofs.Unique.{before_itself, one_text}
 
 pub leads_append : (W : ℕ) (xs ys : List Change) (a b c : Rules) → Leads W xs a b → Leads W ys b c → Leads W (xs ++ ys) a c
 leads_append W [] ys a b c p q = subst (λ (r : Rules). Leads W ys r c) (sym p) q
@@ -145,7 +144,7 @@ module _ (W : ℕ) (b : Rules) (wide : W ≤ 256) (g : WellFormed W b) where
     where
       live : (n : ℕ) → (n < 256) ⊎ (256 ≤ n) → r.live n ≡ b.live n
       live n (inl l) = s.inside n l
-      live n (inr l) = s.outside n l ∙ ne_eqb n 0 (omega arith) ∙ sym (not_so (b.live n) (λ h. let q = low n h in omega arith))
+      live n (inr l) = s.outside n l ∙ ne_eqb n 0 (omega arith) ∙ sym (false_from_ne_true (b.live n) (λ h. let q = low n h in omega arith))
 
   -- fewer arcs stand, so that one more may
   bit_le : (x y : Bool) → (x ≡ true → y ≡ true) → cond {A = ℕ} x 1 0 ≤ cond {A = ℕ} y 1 0
@@ -210,7 +209,7 @@ module _ (W : ℕ) (b : Rules) (wide : W ≤ 256) (g : WellFormed W b) where
       ends = g.arc_fits w.from w.label w.to h
 
       absent : r.arc w.from w.label w.to ≡ false
-      absent = not_so (r.arc w.from w.label w.to) (λ a. (s.gone w.from w.label w.to a).1 (inl refl))
+      absent = false_from_ne_true (r.arc w.from w.label w.to) (λ a. (s.gone w.from w.label w.to a).1 (inl refl))
 
       room : standing r < 1024
       room = omega (arith, fewer (w ∷ todo) w.from w.label w.to r s h absent, g.few_arcs)
@@ -265,7 +264,7 @@ module _ (W : ℕ) (b : Rules) (wide : W ≤ 256) (g : WellFormed W b) where
     where
       same : (x y z : ℕ) → (b.arc x y z ≡ true) ⊎ (b.arc x y z ≡ false) → b.arc x y z ≡ r.arc x y z
       same x y z (inl h) = h ∙ sym (s.made x y z h (λ k. k))
-      same x y z (inr h) = h ∙ sym (not_so (r.arc x y z) (λ a. both_ways (b.arc x y z) h (s.gone x y z a).0))
+      same x y z (inr h) = h ∙ sym (false_from_ne_true (r.arc x y z) (λ a. both_ways (b.arc x y z) h (s.gone x y z a).0))
 
 ascending_single : (xs : List AnArc) → Ascending xs → NoRepeat xs
 ascending_single [] h = tt
@@ -279,3 +278,6 @@ rebuilt W b changes wide g q =
     let arcs = arcs_made W b wide g q.arcs stages.0 (ascending_single q.arcs q.in_order.ascending) (λ x. (q.in_order.exactly x).0) arced in
     let all = leads_append W (stage_changes b) (map Arc q.arcs) (fresh b.events) stages.0 arcs.0 stages.1 arcs.1 in
     (arcs.0, subst (λ (chs : List Change). Leads W chs (fresh b.events) arcs.0) (sym q.are) all, arced_alike W b wide g arcs.0 arcs.2)
+
+pub canonical_laws : CanonicalLaws
+canonical_laws = record { rebuilds = rebuilt; one = one_text }

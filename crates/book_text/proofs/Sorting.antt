@@ -1,49 +1,17 @@
 -- The arcs of a book's slots, sorted, are its arcs in order.
-use Rattle.std.proofs.Common.{◌≡◌, ℕ, zero, suc, ◌+◌, ◌<◌, ◌≤◌, Bool, true, false, cond, eqb, ltb, ◌⊎◌, List, [], ◌∷◌, Some, None, Option, Ordering, Less, Equal, Greater, count_by, get_or, is_lt, nat_cmp, sym, refl, ap, ◌∙◌, subst, inl, inr, arith}
+use Rattle.std.proofs.Common.{◌≡◌, ℕ, zero, suc, ◌+◌, ◌<◌, ◌≤◌, Bool, true, false, cond, eqb, ltb, ◌⊎◌, List, [], ◌∷◌, Some, Option, Ordering, Less, Equal, Greater, count_by, get_or, is_lt, nat_cmp, sym, refl, ap, ◌∙◌, subst, inl, inr, arith}
 use Rattle.std.specs.List.{filter_map}
 use Rattle.std.specs.List.Sorted.{IsPermutation, IsSorted}
 use Rattle.std.specs.Ordering.{ordering_then}
-use Rattle.std.proofs.lemmas.Bool.{true≢false, eqb-true, eqb-false, ltb-true, ltb-false, lt-ltb, cases_lt, cases_Bool}
-use Rattle.std.proofs.lemmas.List.Sums.{sum_by-cons}
+use Rattle.std.proofs.lemmas.Bool.{true≢false, eqb-true, eqb-false, ltb-true, ltb-false, lt-ltb, cases_lt}
 use Rattle.std.proofs.lemmas.List.Sorted.{sum_by-IsPermutation}
 use Rattle.rules.specs.declared.change.Arc.{Arc}
 use Rattle.rules.specs.Rules.{Rules}
 use Rattle.rules.specs.Counts.{Among}
 use Rattle.book.specs.Slots.{here, arcs_in, Once}
-use Rattle.book.proofs.SlotWrites.{any_count, bit_one, bit_none, same_arc, arc_same}
+use Rattle.book.proofs.SlotWrites.{any_count, bit_one}
+use Rattle.book.proofs.ArcsOfSlots.{times, times_cons, times_slots, itself, among_times, times_among}
 use Rattle.book_text.specs.Canonical.{ArcBefore, Ascending, ArcsInOrder}
-
--- how often an arc stands in a list
-abbrev times : ℕ → ℕ → ℕ → List Arc → ℕ
-times m e n xs = count_by (λ a. here m e n (Some a)) xs
-
-times_cons : (m e n : ℕ) (x : Arc) (xs : List Arc) → times m e n (x ∷ xs) ≡ cond {A = ℕ} (here m e n (Some x)) 1 0 + times m e n xs
-times_cons m e n x xs = sum_by-cons (λ a. cond (here m e n (Some a)) 1 0) x xs
-
--- as often as in the slots
-times_slots : (m e n : ℕ) (ss : List (Option Arc)) → times m e n (filter_map (λ s. s) ss) ≡ count_by (here m e n) ss
-times_slots m e n [] = refl
-times_slots m e n (None ∷ ss) = omega (arith, sum_by-cons (λ s. cond (here m e n s) 1 0) None ss, times_slots m e n ss)
-times_slots m e n (Some a ∷ ss) =
-    omega (arith, sum_by-cons (λ s. cond (here m e n s) 1 0) (Some a) ss, times_cons m e n a (filter_map (λ s. s) ss), times_slots m e n ss)
-
-itself : (x : Arc) → here x.from x.label x.to (Some x) ≡ true
-itself x = arc_same x.from x.label x.to x.from x.label x.to refl refl refl
-
--- what stands in a list stands there at least once, and the other way round
-among_times : (x : Arc) (xs : List Arc) → Among x xs → 1 ≤ times x.from x.label x.to xs
-among_times x [] h = absurd h
-among_times x (y ∷ ys) (inl e) =
-    omega (arith, times_cons x.from x.label x.to y ys, bit_one _ (ap (λ (z : Arc). here x.from x.label x.to (Some z)) (sym e) ∙ itself x))
-among_times x (y ∷ ys) (inr h) = omega (arith, times_cons x.from x.label x.to y ys, among_times x ys h)
-
-times_among : (x : Arc) (xs : List Arc) → 1 ≤ times x.from x.label x.to xs → Among x xs
-times_among x [] h = absurd (omega arith)
-times_among x (y ∷ ys) h = go (cases_Bool (here x.from x.label x.to (Some y))) (times_among x ys)
-  where
-    go : (here x.from x.label x.to (Some y) ≡ true) ⊎ (here x.from x.label x.to (Some y) ≡ false) → (1 ≤ times x.from x.label x.to ys → Among x ys) → Among x (y ∷ ys)
-    go (inl e) r = let q = same_arc x.from x.label x.to y.from y.label y.to e in inl (λ i. record { from = q.0 i; label = q.1 i; to = q.2 i })
-    go (inr e) r = inr (r (omega (arith, h, times_cons x.from x.label x.to y ys, bit_none _ e)))
 
 -- the order of arcs
 abbrev arc_cmp : Arc → Arc → Ordering

@@ -16,6 +16,7 @@ const MOST_CHANGES: usize = 64;
 
 /// The canonical text of a book: the number of events on the first line, and then the changes that make
 /// the book of a fresh one, in sheets, each with a line `end` after it.
+#[tactic(auto, using(crate::proofs::Rebuilding::canonical_laws))]
 pub fn write_book(heap: Global, book: &Book) -> Result<String, AllocError>
     ensures text { IfOk result (λ s. CanonicalText (rules_of book.now) (string_bytes s)) }
     ensures laws { CanonicalLaws }

@@ -1,10 +1,9 @@
 -- Tests, sums and lists over the numbers below a bound.
 use Rattle.std.proofs.Common.{◌≡◌, ℕ, zero, suc, ◌+◌, ◌<◌, ◌≤◌, Bool, true, ◌||◌, ◌⊎◌, List, ◌++◌, length, sym, refl, ap, ◌∙◌, subst, inl, inr, arith, length-append}
-use Rattle.std.proofs.lemmas.Bool.{false≢true, or_cases, cases_eq}
+use Rattle.std.proofs.lemmas.Bool.{false≢true, or_cases, cases_eq, or_left, or_right}
 use Rattle.rules.specs.Rules.{any_below, sum_below}
 use Rattle.rules.specs.Counts.{Among, NoRepeat}
 use Rattle.rules.specs.Listing.{each_below}
-use Rattle.rules.proofs.Booleans.{or_left, or_right}
 use Rattle.rules.proofs.Counting.{among_left, among_right, among_split, repeat_append}
 
 -- the test passes at some number below n exactly if it passes at one

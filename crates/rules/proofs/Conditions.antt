@@ -1,6 +1,6 @@
 -- What the conditions on a change mean of a well-formed book, and that the book stays well formed.
 use Rattle.std.proofs.Common.{◌≡◌, ℕ, suc, ◌<◌, ◌≤◌, Bool, true, false, cond, not, ◌&&◌, ◌||◌, eqb, ltb, ◌⊎◌, Some, None, Option, sym, refl, ap, ◌∙◌, subst, inl, inr, arith}
-use Rattle.std.proofs.lemmas.Bool.{false≢true, both_ways, eqb-true, eqb-false, ne_eqb, ltb-true, ltb-false, lt-ltb, not-false, and_parts, and_from, or_cases, or_parts}
+use Rattle.std.proofs.lemmas.Bool.{false≢true, both_ways, eqb-true, eqb-false, ne_eqb, ltb-true, ltb-false, lt-ltb, not-false, and_parts, and_from, or_cases, or_parts, or_left, or_right, false_from_ne_true}
 use Rattle.rules.specs.declared.change.Arc.{Arc as AnArc}
 use Rattle.rules.specs.declared.change.Change.{Change}
 use Rattle.rules.specs.declared.change.Change.TheVariants.{Stage, Drop, Arc, Cut, Mark}
@@ -8,11 +8,10 @@ use Rattle.rules.specs.declared.change.BookFault.{BookFault}
 use Rattle.rules.specs.declared.change.BookFault.TheVariants.{OutOfRange, LiveAlready, NotLive, DropsStart, HasArcs, ArcStands, ArcAbsent, BookFull}
 use Rattle.rules.specs.Rules.{Rules, WellFormed, fresh, has_any_arc, standing, any_below}
 use Rattle.rules.specs.Changes.{put, put_arc, changed, first_fault, Allowed, Conditions, ChangeLaws}
-use Rattle.rules.proofs.Booleans.{or_left, or_right, not_so}
 use Rattle.rules.proofs.Below.{any_some, some_any}
 use Rattle.rules.proofs.Faults.{Fine, fine_ends, ends_fine, arc_first, cut_first, stage_free, mark_free}
 use Rattle.rules.proofs.ArcCounts.{Joins, arcs_count, arcs_kept, arcs_added, no_arcs}
-use Rattle.rules.proofs.Options.{some_none}
+use Rattle.std.proofs.lemmas.Option.{none-some}
 
 pub formed_joins : (W : ℕ) (b : Rules) → W ≤ 256 → WellFormed W b → Joins b
 formed_joins W b w g = record { low = λ n l. let h = g.few_stages n l in omega arith; ends = g.arc_fits }
@@ -46,7 +45,7 @@ module _ (b : Rules) (g : Joins b) where
 
 -- a condition that does not hold is passed over
 past : (x : Bool) (f : BookFault) (o : Option BookFault) → cond x (Some f) o ≡ None → (x ≡ false) × (o ≡ None)
-past true f o h = absurd (some_none h)
+past true f o h = absurd (none-some _ (sym h))
 past false f o h = (refl, h)
 
 by_past : (x : Bool) (f : BookFault) (o : Option BookFault) → x ≡ false → o ≡ None → cond x (Some f) o ≡ None
@@ -99,7 +98,7 @@ module _ (W : ℕ) (b : Rules) (g : Joins b) where
       by_past (not (ltb n W)) OutOfRange _ (ap not (lt-ltb n W h.0))
       (by_past (not (b.live n)) NotLive _ (ap not h.1)
       (by_past (eqb n 0) DropsStart _ (ne_eqb n 0 h.2)
-      (by_past (has_any_arc b n) HasArcs None (not_so (has_any_arc b n) (λ t. none (joined_there b g n t))) refl)))
+      (by_past (has_any_arc b n) HasArcs None (false_from_ne_true (has_any_arc b n) (λ t. none (joined_there b g n t))) refl)))
     where
       none : Joined b g n → ⊥
       none (m, e, k, a, inl x) = (h.3 m e k a).0 x

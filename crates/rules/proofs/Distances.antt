@@ -3,7 +3,7 @@ use Rattle.std.proofs.Common.{◌≡◌, ℕ, zero, suc, ◌+◌, ◌<◌, ◌�
 use Rattle.rules.specs.Rules.{Rules}
 use Rattle.rules.specs.Paths.{Event, Word}
 use Rattle.rules.specs.Table.{Table, onward, leads, Rows, Sound, Layered, only, Found}
-use Rattle.rules.proofs.Options.{some_none, some_inj}
+use Rattle.std.proofs.lemmas.Option.{none-some, same_Some}
 use Rattle.rules.proofs.Leads.{onward_none}
 use Rattle.rules.proofs.FirstLists.{length_snoc}
 use Rattle.rules.proofs.TurnOrder.{onward_end, word_snoc}
@@ -27,12 +27,12 @@ module _ (rules : Rules) (t : Table) (layers : Layered rules t) where
       )
 
   far : (w : List ℕ) (q r : ℕ) → t.used q ≡ true → Word rules w → onward t w (Some q) ≡ Some r → t.dist r ≤ t.dist q + length w
-  far [] q r u k h = let e = ap t.dist (some_inj h) in omega arith
+  far [] q r u k h = let e = ap t.dist (same_Some _ _ h) in omega arith
   far (e ∷ w) q r u k h = go (λ p v l. far w p r v k.1 l) (t.exit q e) refl h
     where
       go : ((p : ℕ) → t.used p ≡ true → onward t w (Some p) ≡ Some r → t.dist r ≤ t.dist p + length w) →
           (o : Option ℕ) → t.exit q e ≡ o → onward t w o ≡ Some r → t.dist r ≤ t.dist q + suc (length w)
-      go ih None g l = absurd (some_none (sym l ∙ onward_none t w))
+      go ih None g l = absurd (none-some _ (sym (onward_none t w) ∙ l))
       go ih (Some p) g l = let a = layers.no_farther q e p u k.0 g in let b = ih p (layers.rows.exit_row q e p u k.0 g).0 l in omega arith
 
 pub layers_sound : (rules : Rules) (t : Table) → Layered rules t → Sound rules t

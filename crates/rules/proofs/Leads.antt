@@ -5,7 +5,7 @@ use Rattle.rules.specs.Rules.{Rules}
 use Rattle.rules.specs.Paths.{Stages, R, Exit, Holds, Same, Empty, Inhabited, Event, Word, Closed, From, FollowerLaws}
 use Rattle.rules.specs.Paths.Path.{stay, event}
 use Rattle.rules.specs.Table.{Table, onward, leads, Rows, Sound, Follows}
-use Rattle.rules.proofs.Options.{some_none}
+use Rattle.std.proofs.lemmas.Option.{none-some}
 use Rattle.rules.proofs.Booleans.{both}
 use Rattle.rules.proofs.PathParts.{join, spelled, closed_path, reach_closed, exit_closed}
 
@@ -97,12 +97,12 @@ module _ (rules : Rules) (t : Table) (good : Rows rules t) where
     where
       is_event : ((p : ℕ) → t.used p ≡ true → onward t w (Some p) ≡ Some q → Word rules w) → Event rules e →
           (o : Option ℕ) → t.exit r e ≡ o → onward t w o ≡ Some q → Event rules e × Word rules w
-      is_event ih y None g k = absurd (some_none (sym k ∙ onward_none t w))
+      is_event ih y None g k = absurd (none-some _ (sym (onward_none t w) ∙ k))
       is_event ih y (Some p) g k = (y, ih p (good.exit_row r e p u y g).0 k)
 
       go : ((p : ℕ) → t.used p ≡ true → onward t w (Some p) ≡ Some q → Word rules w) → Dec (Event rules e) → Event rules e × Word rules w
       go ih (yes y) = is_event ih y (t.exit r e) refl h
-      go ih (no n) = absurd (some_none (sym h ∙ ap (onward t w) (good.no_event r e u n) ∙ onward_none t w))
+      go ih (no n) = absurd (none-some _ (sym (ap (onward t w) (good.no_event r e u n) ∙ onward_none t w) ∙ h))
 
 pub follows_stands : (rules : Rules) (t : Table) → Sound rules t → Follows rules t
 follows_stands rules t sound = record {

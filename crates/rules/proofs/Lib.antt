@@ -1,5 +1,4 @@
 pub mod Booleans
-pub mod Options
 pub mod Counting
 pub mod Below
 pub mod PathParts

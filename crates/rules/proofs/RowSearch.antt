@@ -4,7 +4,7 @@ use Rattle.rules.specs.Rules.{Rules}
 use Rattle.rules.specs.Paths.{Event, Word, R, Exit, Holds, Empty}
 use Rattle.rules.specs.Table.{Table, onward, Rows, Sound}
 use Rattle.rules.specs.Turn.{Earlier, InTurn, Places, placed, by_place, Discovery, Discovering, Appended, SearchSteps}
-use Rattle.rules.proofs.Options.{some_none, some_inj}
+use Rattle.std.proofs.lemmas.Option.{none-some, same_Some}
 use Rattle.rules.proofs.Leads.{onward_none}
 use Rattle.rules.proofs.FirstLists.{three}
 use Rattle.std.proofs.lemmas.Bool.{ltb-true, lt-ltb}
@@ -21,15 +21,15 @@ module _ (rules : Rules) (t : Table) (N : ℕ) (row place : ℕ → ℕ) (good :
 
   exit_placed : (i e q : ℕ) → ltb i N ≡ true → Event rules e → (o : Option ℕ) → t.exit (row i) e ≡ o → placed place o ≡ Some q →
       (ltb q N ≡ true) × Holds (t.set (row q)) (Exit rules (t.set (row i)) e)
-  exit_placed i e q u k None h l = absurd (some_none (sym l))
+  exit_placed i e q u k None h l = absurd (none-some _ l)
   exit_placed i e q u k (Some r) h l = let g = good.exit_row (row i) e r (used_row i u) k h in
-      subst (λ (x : ℕ). (ltb x N ≡ true) × Holds (t.set (row x)) (Exit rules (t.set (row i)) e)) (some_inj l)
+      subst (λ (x : ℕ). (ltb x N ≡ true) × Holds (t.set (row x)) (Exit rules (t.set (row i)) e)) (same_Some _ _ l)
       (place_used r g.0, place_set r (Exit rules (t.set (row i)) e) g.0 g.1)
 
   none_placed : (i e : ℕ) → ltb i N ≡ true → Event rules e → (o : Option ℕ) → t.exit (row i) e ≡ o → placed place o ≡ None →
       Empty (Exit rules (t.set (row i)) e)
   none_placed i e u k None h l = good.no_exit (row i) e (used_row i u) k h
-  none_placed i e u k (Some r) h l = absurd (some_none l)
+  none_placed i e u k (Some r) h l = absurd (none-some _ (sym l))
 
   pub rows_placed : Rows rules (by_place t N row place)
   rows_placed = record {
@@ -55,11 +55,11 @@ module _ (rules : Rules) (t : Table) (N : ℕ) (row place from by : ℕ → ℕ)
   start_place = subst HasPlace disc.begins (let h = (disc.found 0 disc.some_row).1 in (subst (λ (x : ℕ). x < N) (sym h) disc.some_row, ap row h))
 
   onward_place : (w : List ℕ) (q r : ℕ) → HasPlace q → Word rules w → onward t w (Some q) ≡ Some r → HasPlace r
-  onward_place [] q r h k l = subst HasPlace (some_inj l) h
+  onward_place [] q r h k l = subst HasPlace (same_Some _ _ l) h
   onward_place (e ∷ w) q r h k l = go (λ p m n. onward_place w p r m k.1 n) (t.exit q e) refl l
     where
       go : ((p : ℕ) → HasPlace p → onward t w (Some p) ≡ Some r → HasPlace r) → (o : Option ℕ) → t.exit q e ≡ o → onward t w o ≡ Some r → HasPlace r
-      go ih None m n = absurd (some_none (sym n ∙ onward_none t w))
+      go ih None m n = absurd (none-some _ (sym (onward_none t w) ∙ n))
       go ih (Some p) m n = let x = disc.looked (place q) e p h.0 k.0 (ap (λ (y : ℕ). t.exit y e) h.1 ∙ m) in ih p (x.0, x.1) n
 
   every_place : (r : ℕ) → t.used r ≡ true → HasPlace r
@@ -73,8 +73,8 @@ module _ (rules : Rules) (t : Table) (N : ℕ) (row place from by : ℕ → ℕ)
 
   first_placed : (r i e : ℕ) → 0 < r → i < N → Event rules e → (o : Option ℕ) → t.exit (row i) e ≡ o → placed place o ≡ Some r →
       Earlier i e (from r) (by r) → ⊥
-  first_placed r i e h l k None m n b = some_none (sym n)
-  first_placed r i e h l k (Some q) m n b = let z : place q ≡ r = some_inj n in
+  first_placed r i e h l k None m n b = none-some _ n
+  first_placed r i e h l k (Some q) m n b = let z : place q ≡ r = same_Some _ _ n in
       (disc.looked i e q l k m).2 (omega arith) (subst (λ (x : ℕ). Earlier i e (from x) (by x)) (sym z) b)
 
   pub in_turn : InTurn rules (by_place t N row place) N from by
@@ -160,7 +160,7 @@ module _ (rules : Rules) (t : Table) (good : Rows rules t) where
   seen : (N i e q : ℕ) (row place from by : ℕ → ℕ) → Discovering rules t N i e row place from by → t.exit (row i) e ≡ Some q →
       place q < N → row (place q) ≡ q → Discovering rules t N i (suc e) row place from by
   seen N i e q row place from by d x l m = further N i e row place from by d
-      (λ p y. subst (Looked N row place from by i e) (some_inj (sym x ∙ y)) (l, m, λ h b. earlier_asym i e _ _ b (d.met (place q) h l).3))
+      (λ p y. subst (Looked N row place from by i e) (same_Some _ _ (sym x ∙ y)) (l, m, λ h b. earlier_asym i e _ _ b (d.met (place q) h l).3))
 
   module _ (N i e q : ℕ) (row place from by row' place' from' by' : ℕ → ℕ) (d : Discovering rules t N i e row place from by) (i<N : i < N) (is_event : Event rules e)
       (x : t.exit (row i) e ≡ Some q) (unseen : (k : ℕ) → k < N → row k ≡ q → ⊥) (app : Appended N i e q row place from by row' place' from' by') where
@@ -200,7 +200,7 @@ module _ (rules : Rules) (t : Table) (good : Rows rules t) where
         let other : p ≡ q → ⊥ = λ z. unseen (place p) s (r.1 ∙ z) in
         rw (app.place_kept p other, app.row_kept (place p) s, app.from_kept (place p) s, app.by_kept (place p) s) (omega arith, r.1, r.2)
     looked_new j f p l m y (inr z) =
-        let p≡q : q ≡ p = some_inj (sym x ∙ (λ k. t.exit (row (sym z.0 k)) (sym z.1 k)) ∙ y) in
+        let p≡q : q ≡ p = same_Some _ _ (sym x ∙ (λ k. t.exit (row (sym z.0 k)) (sym z.1 k)) ∙ y) in
         subst (Looked (suc N) row' place' from' by' j f) p≡q
         (rw (app.place_new, app.row_new, app.from_new, app.by_new) (omega arith, refl, λ h b. last z.0 z.1 b))
       where
@@ -249,7 +249,7 @@ module _ (rules : Rules) (t : Table) (good : Rows rules t) where
 pub search_stands : (rules : Rules) (t : Table) → Rows rules t → SearchSteps rules t
 search_stands rules t good = record {
   begin = begin rules t good;
-  no_exit = λ N i e row place from by d h. further rules t good N i e row place from by d (λ q x. absurd (some_none (sym x ∙ h)));
+  no_exit = λ N i e row place from by d h. further rules t good N i e row place from by d (λ q x. absurd (none-some _ (sym h ∙ x)));
   seen = seen rules t good;
   new = new rules t good;
   next_row = next_row rules t good;

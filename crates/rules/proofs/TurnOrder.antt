@@ -7,7 +7,7 @@ use Rattle.rules.specs.Table.{Table, onward, leads}
 use Rattle.rules.specs.Order.{Before, Rising, First}
 use Rattle.rules.specs.Counts.{Among}
 use Rattle.rules.specs.Turn.{Earlier, InTurn, InOrder}
-use Rattle.rules.proofs.Options.{some_none, some_inj}
+use Rattle.std.proofs.lemmas.Option.{none-some, same_Some}
 use Rattle.rules.proofs.Leads.{Finds, leads_finds, leads_some, leads_to, onward_word, onward_none}
 use Rattle.rules.proofs.FirstLists.{three, before_irrefl, before_trans, before_snoc, before_last, length_snoc}
 
@@ -191,14 +191,14 @@ module _ (rules : Rules) (t : Table) (N : ℕ) (from by : ℕ → ℕ) (in_turn 
 
       at : ((u : List ℕ) (i : ℕ) → length u < k → leads t u ≡ Some i → Least i u) →
           (u : List ℕ) (e : ℕ) → v ≡ u ++ (e ∷ []) → (o : Option ℕ) → leads t u ≡ o → onward t (e ∷ []) o ≡ Some r → Least r (u ++ (e ∷ []))
-      at ih u e z None m n = absurd (some_none (sym n))
+      at ih u e z None m n = absurd (none-some _ n)
       at ih u e z (Some i) m n = last_step u e i r (place u i m) (place v r l)
           (word_end rules u e (subst (Word rules) z (onward_word rules t in_turn.rows v t.start r in_turn.rows.start_used l))) n
           (ih u i (omega (arith, ap length z, length_snoc u e)) m)
 
       go : ((u : List ℕ) (i : ℕ) → length u < k → leads t u ≡ Some i → Least i u) →
           (v ≡ []) ⊎ ((u : List ℕ) × (e : ℕ) × (v ≡ u ++ (e ∷ []))) → Least r v
-      go ih (inl z) = inl (ap (word_of from by) (sym (some_inj (sym (in_turn_start) ∙ sym (ap (leads t) z) ∙ l))) ∙ sym z)
+      go ih (inl z) = inl (ap (word_of from by) (sym (same_Some _ _ (sym (in_turn_start) ∙ sym (ap (leads t) z) ∙ l))) ∙ sym z)
         where
           in_turn_start : Some t.start ≡ Some 0
           in_turn_start = ap {B = Option ℕ} Some in_turn.start

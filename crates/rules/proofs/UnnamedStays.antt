@@ -9,7 +9,7 @@ use Rattle.rules.specs.Table.{Table, Rows, Sound}
 use Rattle.rules.specs.Alteration.{Leaves, Named, KeptRow, KeepsNumbers, SameStep, Altered}
 use Rattle.rules.proofs.PathParts.{extend}
 use Rattle.rules.proofs.Booleans.{both}
-use Rattle.rules.proofs.Options.{some_none, some_inj}
+use Rattle.std.proofs.lemmas.Option.{none-some, same_Some}
 
 stable : (a b : Bool) → ((a ≡ b → ⊥) → ⊥) → a ≡ b
 stable true true h = refl
@@ -53,7 +53,7 @@ module _ (old new : Rules) (t u : Table) (before : Rows old t) (after : Rows new
       (p≡q, record { before = a.0; after = rw p≡q b.0; same = λ n. same n ∙ ap (λ x. u.set x n) (sym p≡q) })
 
   pub steps : (o o' : Option ℕ) → t.exit r e ≡ o → u.exit r e ≡ o' → (o ≡ o') × ((q : ℕ) → o ≡ Some q → KeptRow t u q)
-  steps None None h k = (refl, λ q z. absurd (some_none (sym z)))
+  steps None None h k = (refl, λ q z. absurd (none-some _ z))
   steps None (Some q) h k =
       let b = after.exit_row r e q kept.after is_new k in
       let i = after.inhabited q b.0 in
@@ -64,7 +64,7 @@ module _ (old new : Rules) (t u : Table) (before : Rows old t) (after : Rows new
       absurd (after.no_exit r e kept.after is_new k i.0 ((exits i.0).0 ((a.1 i.0).0 i.1)))
   steps (Some p) (Some q) h k =
       let g = kept_exit p q h k in
-      (ap {B = Option ℕ} Some g.0, λ x z. subst (KeptRow t u) (some_inj z) g.1)
+      (ap {B = Option ℕ} Some g.0, λ x z. subst (KeptRow t u) (same_Some _ _ z) g.1)
 
 -- a kept row steps the same exactly if its exits are the same
 module _ (old new : Rules) (t u : Table) (sound : Sound old t) (sound' : Sound new u) (events : old.events ≡ new.events) (keeps : KeepsNumbers t u)

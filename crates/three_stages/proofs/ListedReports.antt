@@ -9,7 +9,7 @@ use Rattle.rules.specs.Counts.{Among, NoRepeat, Counts}
 use Rattle.rules.specs.Report.{Tally, Reported, CountedRows}
 use Rattle.three_stages.specs.Example.{has_stage, has_arc, book_of, tally_of}
 use Rattle.rules.proofs.Booleans.{both}
-use Rattle.rules.proofs.Options.{some_none, some_inj}
+use Rattle.std.proofs.lemmas.Option.{none-some, same_Some}
 use Rattle.rules.proofs.RowCounts.{rows_count_sets}
 use Rattle.three_stages.proofs.FiniteTables.{Arcs, true_or, imp, imp_true, all_below, all_below_at, some_arc, some_arc_at, at_some_arc}
 use Rattle.three_stages.proofs.ListedTables.{table_of, listed_exit, lacks, no_two}
@@ -280,17 +280,17 @@ module _ (E : ℕ) (stages stages' : List ℕ) (a b : Arcs) (rows rows' : List (
   answers_b (Some p) (Some q) = eqb p q && kept_b p
 
   answers_true : (o o' : Option ℕ) → answers_b o o' ≡ true → (o ≡ o') × ((q : ℕ) → o ≡ Some q → KeptRow t u q)
-  answers_true None None h = (refl, λ q e. absurd (some_none (sym e)))
+  answers_true None None h = (refl, λ q e. absurd (none-some _ e))
   answers_true None (Some q) h = absurd (false≢true h)
   answers_true (Some p) None h = absurd (false≢true h)
   answers_true (Some p) (Some q) h = let x = and_parts (eqb p q) (kept_b p) h in
-      (ap {B = Option ℕ} Some (eqb-true p q x.0), λ r e. subst (KeptRow t u) (some_inj e) (kept_true p x.1))
+      (ap {B = Option ℕ} Some (eqb-true p q x.0), λ r e. subst (KeptRow t u) (same_Some _ _ e) (kept_true p x.1))
 
   true_answers : (o o' : Option ℕ) → o ≡ o' → ((q : ℕ) → o ≡ Some q → KeptRow t u q) → answers_b o o' ≡ true
   true_answers None None e h = refl
-  true_answers None (Some q) e h = absurd (some_none (sym e))
-  true_answers (Some p) None e h = absurd (some_none e)
-  true_answers (Some p) (Some q) e h = and_from (eqb p q) (kept_b p) (eq-eqb p q (some_inj e)) (true_kept p (h p refl))
+  true_answers None (Some q) e h = absurd (none-some _ e)
+  true_answers (Some p) None e h = absurd (none-some _ (sym e))
+  true_answers (Some p) (Some q) e h = and_from (eqb p q) (kept_b p) (eq-eqb p q (same_Some _ _ e)) (true_kept p (h p refl))
 
   abbrev turned_b : ℕ → ℕ → Bool
   turned_b r e = not (answers_b (listed_exit E exits r e) (listed_exit E exits' r e))

@@ -7,7 +7,7 @@ use Rattle.rules.specs.Paths.{Exit, Holds, Empty, Inhabited, Event}
 use Rattle.rules.specs.Table.{Table, Rows, Layered}
 use Rattle.rules.specs.Turn.{Earlier, InTurn}
 use Rattle.three_stages.specs.Example.{has_stage, book_of}
-use Rattle.rules.proofs.Options.{some_none, some_inj}
+use Rattle.std.proofs.lemmas.Option.{none-some, same_Some}
 use Rattle.rules.proofs.ImageReading.{pred_of}
 use Rattle.three_stages.proofs.FiniteTables.{Arcs, true_or, all_below, all_below_at, start_b, exit_b, none_b, start_holds, exit_holds, none_holds}
 
@@ -125,16 +125,16 @@ module _ (E : ℕ) (stages : List ℕ) (arcs : Arcs) (rows : List (List ℕ)) (e
 
   exit_some : (r e q : ℕ) (o : Option ℕ) → answer_b arcs rows (get_or rows r []) e o ≡ true → o ≡ Some q →
       (ltb q (length rows) ≡ true) × Holds (has_stage (get_or rows q [])) (Exit (book_of E stages arcs) (has_stage (get_or rows r [])) e)
-  exit_some r e q None h k = absurd (some_none (sym k))
+  exit_some r e q None h k = absurd (none-some _ k)
   exit_some r e q (Some p) h k = let a = and_parts (ltb p (length rows)) (exit_b arcs (get_or rows r []) e (get_or rows p [])) h in
       subst (λ (x : ℕ). (ltb x (length rows) ≡ true) × Holds (has_stage (get_or rows x [])) (Exit (book_of E stages arcs) (has_stage (get_or rows r [])) e))
-      (some_inj k)
+      (same_Some _ _ k)
       (a.0, exit_holds (book_of E stages arcs) arcs refl (get_or rows r []) e (get_or rows p []) a.1)
 
   exit_none : (r e : ℕ) (o : Option ℕ) → answer_b arcs rows (get_or rows r []) e o ≡ true → o ≡ None →
       Empty (Exit (book_of E stages arcs) (has_stage (get_or rows r [])) e)
   exit_none r e None h k = none_holds (book_of E stages arcs) arcs refl (get_or rows r []) e h
-  exit_none r e (Some p) h k = absurd (some_none k)
+  exit_none r e (Some p) h k = absurd (none-some _ (sym k))
 
   outside : (r e : ℕ) → (Event (book_of E stages arcs) e → ⊥) → listed_exit E exits r e ≡ None
   outside r zero n = cond_same (leb 0 E) None
@@ -186,8 +186,8 @@ module _ (E : ℕ) (stages : List ℕ) (arcs : Arcs) (rows : List (List ℕ)) (e
           inr (a.0, (ltb-true _ _ c.0, leb-true _ _ c.1), is_some_true _ r d.0, eqb-true _ _ d.1)
 
   near_at : (q e r : ℕ) (o : Option ℕ) → near_b (λ r. get_or dists r 0) (get_or dists q 0) o ≡ true → o ≡ Some r → get_or dists r 0 ≤ suc (get_or dists q 0)
-  near_at q e r None h k = absurd (some_none (sym k))
-  near_at q e r (Some p) h k = subst (λ (x : ℕ). get_or dists x 0 ≤ suc (get_or dists q 0)) (some_inj k) (leb-true _ _ h)
+  near_at q e r None h k = absurd (none-some _ k)
+  near_at q e r (Some p) h k = subst (λ (x : ℕ). get_or dists x 0 ≤ suc (get_or dists q 0)) (same_Some _ _ k) (leb-true _ _ h)
 
   near_of : (q e : ℕ) → ltb q (length rows) ≡ true → Event (book_of E stages arcs) e →
       near_b (λ r. get_or dists r 0) (get_or dists q 0) (listed_exit E exits q e) ≡ true
@@ -227,8 +227,8 @@ module _ (E : ℕ) (stages : List ℕ) (arcs : Arcs) (rows : List (List ℕ)) (e
 
     first_at : (r i e : ℕ) → 0 < r → (o : Option ℕ) → first_b (λ r. get_or froms r 0) (λ r. get_or bys r 0) i e o ≡ true → o ≡ Some r →
         Earlier i e (get_or froms r 0) (get_or bys r 0) → ⊥
-    first_at r i e p None h k l = some_none (sym k)
-    first_at r i e p (Some q) h k l = let q≡r : q ≡ r = some_inj k in
+    first_at r i e p None h k l = none-some _ k
+    first_at r i e p (Some q) h k l = let q≡r : q ≡ r = same_Some _ _ k in
         both_ways (earlier_b i e (get_or froms q 0) (get_or bys q 0)) (not-true _ (positive_b q _ (omega arith) h))
         (subst⁻¹ (λ (x : ℕ). earlier_b i e (get_or froms x 0) (get_or bys x 0) ≡ true) q≡r (true_earlier i e _ _ l))
 
