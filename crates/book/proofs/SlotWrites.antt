@@ -33,11 +33,8 @@ any_count p (x ∷ xs) = go (p x) refl (any_count p xs)
     go true h r = sym (lt-ltb 0 (count_by p (x ∷ xs)) (omega (arith, sum_by-cons (λ y. cond (p y) 1 0) x xs, bit_one (p x) h)))
     go false h r = r ∙ ap (ltb 0) (omega (arith, sum_by-cons (λ y. cond (p y) 1 0) x xs, bit_none (p x) h))
 
-pub none_counted : {X : Type 0} (p : X → Bool) (xs : List X) → list_any p xs ≡ false → count_by p xs ≡ 0
+none_counted : {X : Type 0} (p : X → Bool) (xs : List X) → list_any p xs ≡ false → count_by p xs ≡ 0
 none_counted p xs h = omega (arith, ltb-false 0 (count_by p xs) (sym (any_count p xs) ∙ h))
-
-pub counted_none : {X : Type 0} (p : X → Bool) (xs : List X) → count_by p xs ≡ 0 → list_any p xs ≡ false
-counted_none p xs h = any_count p xs ∙ le-ltb 0 (count_by p xs) (omega arith)
 
 -- an arc written into a free slot stands beside the others
 pub set_adds : (ss : List (Option Arc)) (i : ℕ) (x : Arc) (a b c : ℕ) → i < length ss → get_or ss i None ≡ None →
