@@ -87,10 +87,7 @@ impl<'a> Parts<'a> {
         ensures { option_map told result ≡ one_of (left self.entry) }
     {
         let only = self.next()?;
-        match self.next() {
-            None => Some(only),
-            Some(_) => None,
-        }
+        self.next().is_none().then_some(only)
     }
 
     /// The two parts that are to come, if they are two.
