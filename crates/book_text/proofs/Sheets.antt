@@ -51,14 +51,13 @@ unfolding each_below
 some_stage b zero = omega arith
 some_stage b (suc n) = omega (arith, length-append (each_below (suc n) (stage_change b)) (stage_change b (suc n)), some_stage b n)
 
-pub some_change : (b : Rules) (chs given : List Change) → given ≡ chs → CanonicalChanges b chs → 0 < length given
-some_change b chs given e c =
-    omega (arith, ap length (e ∙ c.are), length-append (each_below 256 (stage_change b)) (map Arc c.arcs), some_stage b 255)
+pub some_change : (b : Rules) (chs : List Change) → CanonicalChanges b chs → 0 < length chs
+some_change b chs c =
+    omega (arith, ap length c.are, length-append (each_below 256 (stage_change b)) (map Arc c.arcs), some_stage b 255)
 
 -- the first line and the sheets make the text
-pub whole_text : (E n : ℕ) (first text : List ℕ) (chs given : List Change) → first ≡ decimal n ++ (10 ∷ []) → n ≡ E → text ≡ first ++ in_sheets 64 given →
-    given ≡ chs → text ≡ text_of E chs
-whole_text E n first text chs given p e q s =
+pub whole_text : (E n : ℕ) (first text : List ℕ) (chs : List Change) → first ≡ decimal n ++ (10 ∷ []) → n ≡ E → text ≡ first ++ in_sheets 64 chs → text ≡ text_of E chs
+whole_text E n first text chs p e q =
     q
-    ∙ (λ i. (p ∙ ap (λ (k : ℕ). decimal k ++ (10 ∷ [])) e) i ++ in_sheets 64 (s i))
+    ∙ ap (λ (x : List ℕ). x ++ in_sheets 64 chs) (p ∙ ap (λ (k : ℕ). decimal k ++ (10 ∷ [])) e)
     ∙ append_assoc (decimal E) (10 ∷ []) (in_sheets 64 chs)

@@ -1,9 +1,9 @@
 //! The canonical text.
 
-ghost use Rattle.std.specs.Prelude.{◌≡◌, ◌<◌, ◌++◌, length, IfOk, string_bytes, OnOk};
+ghost use Rattle.std.specs.Prelude.{◌≡◌, ◌++◌, IfOk, string_bytes, OnOk};
 ghost use Rattle.std.specs.List.{flat_map};
 ghost use Rattle.book.specs.Records.{rules_of};
-ghost use Rattle.book_text.specs.Canonical.{line_text, in_sheets, CanonicalText, CanonicalLaws};
+ghost use Rattle.book_text.specs.Canonical.{line_text, CanonicalText, CanonicalLaws};
 
 use crate::changes::canonical_changes;
 use book::Book;
@@ -30,20 +30,11 @@ fn written(heap: Global, book: &Book) -> Result<String, AllocError>
     let changes = canonical_changes(heap, book)?;
     let events = book.events();
     let mut text = format!(in heap; "{events}\n")?;
-    write_sheets(&mut text, changes.as_slice())?;
-    Ok(text)
-}
-
-/// Writes the changes in sheets. There is one change at least: the mark of stage 0.
-fn write_sheets(text: &mut String, changes: &[Change]) -> Result<(), AllocError>
-    requires { 0 < length changes.now }
-    ensures { OnOk result (string_bytes text.new ≡ string_bytes text.old ++ in_sheets 64 changes.now) }
-{
     for sheet in changes.chunks(MOST_CHANGES) {
-        write_lines(text, sheet)?;
+        write_lines(&mut text, sheet)?;
         text.push_str("end\n")?;
     }
-    Ok(())
+    Ok(text)
 }
 
 /// Writes the lines of changes.
