@@ -8,13 +8,31 @@ ghost use Rattle.book.specs.Records.{rules_of, FreshPost, ChangePost, ends_answe
 use crate::record::{Book, Stage};
 use rules::{Arc, BookFault, Change};
 
+/// The stages that a change may name: those below `stages`, which are 256 at most.
+#[derive(Clone, Copy)]
+struct Bound {
+    stages: u16,
+    ghost within: { stages ≤ 256 },
+}
+
+impl Bound {
+    /// The stages below a width, as far as a book has them.
+    fn of_width(width: u16) -> Bound
+        ensures { result.stages ≡ min width 256 }
+    {
+        Bound {
+            stages: width.min(256),
+        }
+    }
+}
+
 impl Book {
     /// The book with so many events in which stage 0 is live with mark 0 and no arc stands; absent where
     /// the number of events is not from 1 to 15.
     pub fn fresh(events: u8) -> Option<Book>
         ensures { FreshPost events result }
     {
-        if events < 1 || events > 15 {
+        if !(1..=15).contains(&events) {
             return None;
         }
         Some(Book::begun(events))
@@ -43,7 +61,7 @@ impl Book {
     pub fn change(&mut self, width: u16, change: Change) -> Result<(), BookFault>
         ensures { ChangePost (min width 256) self.old change result self.new }
     {
-        let bound = width.min(256);
+        let bound = Bound::of_width(width);
         match change {
             Change::Stage { stage, mark } => self.add_stage(bound, stage, mark),
             Change::Drop { stage } => self.drop_stage(bound, stage),
@@ -53,17 +71,16 @@ impl Book {
         }
     }
 
-    fn add_stage(&mut self, bound: u16, stage: u16, mark: u16) -> Result<(), BookFault>
-        requires { bound ≤ 256 }
-        ensures { ChangePost bound self.old (Staged stage mark) result self.new }
+    fn add_stage(&mut self, bound: Bound, stage: u16, mark: u16) -> Result<(), BookFault>
+        ensures { ChangePost bound.stages self.old (Staged stage mark) result self.new }
     {
-        if stage >= bound || mark > 7 {
+        if stage >= bound.stages || mark > 7 {
             return Err(BookFault::OutOfRange);
         }
         if self.is_live(stage) {
             return Err(BookFault::LiveAlready);
         }
-        self.stages[stage as usize] = Stage {
+        self.stages[usize::from(stage)] = Stage {
             live: true,
             mark: mark as u8,
         };
@@ -71,10 +88,10 @@ impl Book {
     }
 
     #[tactic(auto, using(crate::proofs::BookWrites::joined_meant))]
-    fn drop_stage(&mut self, bound: u16, stage: u16) -> Result<(), BookFault>
-        ensures { ChangePost bound self.old (Dropped stage) result self.new }
+    fn drop_stage(&mut self, bound: Bound, stage: u16) -> Result<(), BookFault>
+        ensures { ChangePost bound.stages self.old (Dropped stage) result self.new }
     {
-        if stage >= bound {
+        if stage >= bound.stages {
             return Err(BookFault::OutOfRange);
         }
         if !self.is_live(stage) {
@@ -86,26 +103,25 @@ impl Book {
         if self.has_arcs(stage) {
             return Err(BookFault::HasArcs);
         }
-        self.stages[stage as usize].live = false;
+        self.stages[usize::from(stage)].live = false;
         Ok(())
     }
 
-    fn set_mark(&mut self, bound: u16, stage: u16, mark: u16) -> Result<(), BookFault>
-        requires { bound ≤ 256 }
-        ensures { ChangePost bound self.old (Mark stage mark) result self.new }
+    fn set_mark(&mut self, bound: Bound, stage: u16, mark: u16) -> Result<(), BookFault>
+        ensures { ChangePost bound.stages self.old (Mark stage mark) result self.new }
     {
-        if stage >= bound || mark > 7 {
+        if stage >= bound.stages || mark > 7 {
             return Err(BookFault::OutOfRange);
         }
         if !self.is_live(stage) {
             return Err(BookFault::NotLive);
         }
-        self.stages[stage as usize].mark = mark as u8;
+        self.stages[usize::from(stage)].mark = mark as u8;
         Ok(())
     }
 
-    fn add_arc(&mut self, bound: u16, arc: Arc) -> Result<(), BookFault>
-        ensures { ChangePost bound self.old (Added arc) result self.new }
+    fn add_arc(&mut self, bound: Bound, arc: Arc) -> Result<(), BookFault>
+        ensures { ChangePost bound.stages self.old (Added arc) result self.new }
     {
         self.check_ends(bound, arc)?;
         if self.has_arc(arc) {
@@ -117,8 +133,8 @@ impl Book {
         Ok(())
     }
 
-    fn cut_arc(&mut self, bound: u16, arc: Arc) -> Result<(), BookFault>
-        ensures { ChangePost bound self.old (Cut arc) result self.new }
+    fn cut_arc(&mut self, bound: Bound, arc: Arc) -> Result<(), BookFault>
+        ensures { ChangePost bound.stages self.old (Cut arc) result self.new }
     {
         self.check_ends(bound, arc)?;
         let place = self.place_of(Some(arc)).ok_or(BookFault::ArcAbsent)?;
@@ -128,10 +144,13 @@ impl Book {
     }
 
     /// What stands against the ends and the label of an arc that is added or cut.
-    fn check_ends(&self, bound: u16, arc: Arc) -> Result<(), BookFault>
-        ensures { result ≡ ends_answer bound (rules_of self.now) arc.from arc.label arc.to }
+    fn check_ends(&self, bound: Bound, arc: Arc) -> Result<(), BookFault>
+        ensures { result ≡ ends_answer bound.stages (rules_of self.now) arc.from arc.label arc.to }
     {
-        if arc.from >= bound || arc.label > self.events as u16 || arc.to >= bound {
+        if arc.from >= bound.stages
+            || arc.label > u16::from(self.events)
+            || arc.to >= bound.stages
+        {
             return Err(BookFault::OutOfRange);
         }
         if !self.is_live(arc.from) || !self.is_live(arc.to) {

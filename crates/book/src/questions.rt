@@ -25,7 +25,7 @@ impl Book {
         ensures { result ≡ (rules_of self.now).live stage }
     {
         self.stages
-            .get(stage as usize)
+            .get(usize::from(stage))
             .is_some_and(|stage| stage.live)
     }
 
@@ -34,7 +34,7 @@ impl Book {
         ensures { result ≡ (rules_of self.now).mark stage }
     {
         self.stages
-            .get(stage as usize)
+            .get(usize::from(stage))
             .map_or(0, |stage| stage.mark)
     }
 
@@ -70,6 +70,7 @@ impl Book {
     {}
 
     /// Whether an arc leaves or enters the stage.
+    // `iter().flatten().any(..)` reads as well, and the checker does not see what it answers.
     pub(crate) fn has_arcs(&self, stage: u16) -> bool
         ensures { result ≡ joined self.now.arcs stage }
     {

@@ -38,7 +38,7 @@ fn push_stages(changes: &mut Vec<Change>, book: &Book) -> Result<(), AllocError>
 fn push_stage(changes: &mut Vec<Change>, book: &Book, stage: u16) -> Result<(), AllocError>
     ensures { OnOk result (changes.new.items ≡ changes.old.items ++ stage_change (rules_of book.now) stage) }
 {
-    let mark = book.mark_of(stage) as u16;
+    let mark = u16::from(book.mark_of(stage));
     if stage == 0 {
         changes.push(Change::Mark { stage, mark })?;
     } else if book.is_live(stage) {

@@ -4,7 +4,7 @@ use Rattle.book.proofs.record.Book.cut_arc.Goals as goal
 
 pub returns-in_err-place : goal.returns-in_err-place
 returns-in_err-place c =
-    let h = cut_absent c.args.bound c.args.self.now c.args.arc c.in_ok-check_ends.ensures (sym c.place_of.ensures ∙ c.in_err-place.ensures.ok_part) in
+    let h = cut_absent c.args.bound.stages c.args.self.now c.args.arc c.in_ok-check_ends.ensures (sym c.place_of.ensures ∙ c.in_err-place.ensures.ok_part) in
     search (rules, h)
 
 pub overflow_sub-self : goal.overflow_sub-self
@@ -17,5 +17,5 @@ invariant_of-self c = record {
 
 pub returns : goal.returns
 returns c =
-    arc_cut c.args.bound c.args.self.now c.args.arc c.in_ok-check_ends.ensures c.in_ok-place.place
+    arc_cut c.args.bound.stages c.args.self.now c.args.arc c.in_ok-check_ends.ensures c.in_ok-place.place
     (sym c.place_of.ensures ∙ c.in_ok-place.ensures.ok_part)
