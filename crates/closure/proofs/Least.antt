@@ -1,9 +1,9 @@
 -- What a number of the distance memory tells, as an `Option`. Assumes nothing.
 use Rattle.std.proofs.Common.{◌≡◌, ℕ, ◌<◌, Some, None, Option, MatchOption, sym, refl, ap, subst, arith}
 use Rattle.search.specs.Walks.{Least, Tells}
-use Rattle.closure.specs.Silent.{IsLeast}
+use Rattle.closure.specs.Silent.{LeastOrNone}
 
-pub least_told : (P : ℕ → Type 0) (x : ℕ) (o : Option ℕ) → Tells P x → MatchOption o (x ≡ 65535) (λ d. (d < 65535) × (d ≡ x)) → IsLeast P o
+pub least_told : (P : ℕ → Type 0) (x : ℕ) (o : Option ℕ) → Tells P x → MatchOption o (x ≡ 65535) (λ d. (d < 65535) × (d ≡ x)) → LeastOrNone P o
 least_told P x None t e =
     let none = t.unreached.0 e in
     record { some = λ d. (λ f. cc, λ l. absurd (none d l.some)); none = (λ _. none, λ _. refl) }

@@ -4,7 +4,7 @@ use Rattle.sets.specs.declared.bit_row.BitRow.{BitRow}
 use Rattle.search.specs.Walks.{Walk, stay, step, From, Tells}
 use Rattle.search.proofs.Telling.{tells_like}
 use Rattle.closure.specs.Neighbours.{neighbours_in, places, at_place}
-use Rattle.closure.specs.Silent.{arc_in, Path, none, more, PathFrom, IsLeast}
+use Rattle.closure.specs.Silent.{arc_in, Path, none, more, PathFrom, LeastOrNone}
 use Rattle.closure.proofs.Arcs.{arc_ends}
 use Rattle.closure.proofs.Least.{least_told}
 
@@ -29,7 +29,7 @@ walk_path rows {s} (step {u = u} {k = k} w i h e) =
     subst (λ (x : ℕ). Within rows s x (suc k)) (sym (at_place rows u i (omega (arith, places rows u))) ∙ e) (turn rows s u i k (walk_path rows w) (arc_in rows u i) refl)
 
 -- what the search tells of a stage is the least number of arcs of a path there
-pub least_paths : (rows : List BitRow) (starts : List ℕ) (v x : ℕ) (o : Option ℕ) → Tells (From (neighbours_in rows) starts v) x → MatchOption o (x ≡ 65535) (λ d. (d < 65535) × (d ≡ x)) → IsLeast (PathFrom (arc_in rows) starts v) o
+pub least_paths : (rows : List BitRow) (starts : List ℕ) (v x : ℕ) (o : Option ℕ) → Tells (From (neighbours_in rows) starts v) x → MatchOption o (x ≡ 65535) (λ d. (d < 65535) × (d ≡ x)) → LeastOrNone (PathFrom (arc_in rows) starts v) o
 least_paths rows starts v x o t =
     least_told (PathFrom (arc_in rows) starts v) x o
     (tells_like (From (neighbours_in rows) starts v) (PathFrom (arc_in rows) starts v)

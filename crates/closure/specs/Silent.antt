@@ -27,13 +27,13 @@ abbrev pub PathFrom : (ℕ → ℕ → Bool) → List ℕ → ℕ → ℕ → Ty
 PathFrom arc starts v k = (j : ℕ) × (j < length starts) × Path arc (slice_index starts j) v k
 
 -- the least number of which P holds, or none if it holds of none
-pub record IsLeast (P : ℕ → Type 0) (o : Option ℕ) : Type 0 where
+pub record LeastOrNone (P : ℕ → Type 0) (o : Option ℕ) : Type 0 where
   pub some : (d : ℕ) → (o ≡ Some d) ↔ Least P d
   pub none : (o ≡ None) ↔ ((k : ℕ) → P k → ⊥)
 
 -- the fewest silent arcs from a start to each stage: place v has them for stage v, or none if no path leads there
 abbrev pub FewestArcs : (ℕ → ℕ → Bool) → List ℕ → List (Option ℕ) → Type 0
-FewestArcs arc starts steps = (v : ℕ) → v < 256 → IsLeast (PathFrom arc starts v) (slice_index_or steps v None)
+FewestArcs arc starts steps = (v : ℕ) → v < 256 → LeastOrNone (PathFrom arc starts v) (slice_index_or steps v None)
 
 -- whether a path leads to stage v, by what the steps tell
 abbrev pub reached_in : List (Option ℕ) → ℕ → Bool

@@ -32,8 +32,8 @@ fn write_stages(out: &mut String, steps: &[Option<u16>; 256]) -> Result<(), Allo
     ensures { OnOk result (string_bytes out.new ≡ string_bytes out.old ++ stage_lines 0 steps.now) }
 {
     for (stage, fewest) in steps.iter().enumerate() {
-        if let Some(fewest) = fewest {
-            write_stage(out, stage, *fewest)?;
+        if let Some(fewest) = *fewest {
+            write_stage(out, stage, fewest)?;
         }
     }
     Ok(())
