@@ -19,30 +19,30 @@ use Rattle.closure_text.specs.Lines.{stage_at, stage_of, from_words, request_of}
 use Rattle.closure_text.specs.Readings.{starts_in, starts_of}
 
 -- what a line answers, if it is a start, is a stage
-abbrev Low : Result Request LineFault → Type 0
+abbrev Low : Result (Option Request) LineFault → Type 0
 Low r = All (λ s. s < 256) (starts_in r)
 
-low_stage : (p : Place) (n : ℕ) (b : Bool) → ltb n 256 ≡ b → Low (and_then (cond b (Ok n) (Err (NotStage p))) (λ s. Ok (Start s)))
+low_stage : (p : Place) (n : ℕ) (b : Bool) → ltb n 256 ≡ b → Low (and_then (cond b (Ok n) (Err (NotStage p))) (λ s. Ok (Some (Start s))))
 low_stage p n true e = (ltb-true n 256 e, tt)
 low_stage p n false e = tt
 
-low_start : (p : Place) (o : Option ℕ) → Low (and_then (stage_at p o) (λ s. Ok (Start s)))
+low_start : (p : Place) (o : Option ℕ) → Low (and_then (stage_at p o) (λ s. Ok (Some (Start s))))
 low_start p None = tt
 low_start p (Some n) = low_stage p n (ltb n 256) refl
 
-low_one : (r : Result Told LineFault) → Low (and_then r (λ w. and_then (stage_of w) (λ s. Ok (Start s))))
+low_one : (r : Result Told LineFault) → Low (and_then r (λ w. and_then (stage_of w) (λ s. Ok (Some (Start s)))))
 low_one (Ok w) = low_start w.place (number_of w.text)
 low_one (Err e) = tt
 
-low_to : (u : ℕ) (r : Result ℕ LineFault) → Low (and_then r (λ v. Ok (Arc u v)))
+low_to : (u : ℕ) (r : Result ℕ LineFault) → Low (and_then r (λ v. Ok (Some (Arc u v))))
 low_to u (Ok v) = tt
 low_to u (Err e) = tt
 
-low_from : (r q : Result ℕ LineFault) → Low (and_then r (λ u. and_then q (λ v. Ok (Arc u v))))
+low_from : (r q : Result ℕ LineFault) → Low (and_then r (λ u. and_then q (λ v. Ok (Some (Arc u v)))))
 low_from (Ok u) q = low_to u q
 low_from (Err e) q = tt
 
-low_two : (r : Result (Told × Told) LineFault) → Low (and_then r (λ w. and_then (stage_of w.0) (λ u. and_then (stage_of w.1) (λ v. Ok (Arc u v)))))
+low_two : (r : Result (Told × Told) LineFault) → Low (and_then r (λ w. and_then (stage_of w.0) (λ u. and_then (stage_of w.1) (λ v. Ok (Some (Arc u v))))))
 low_two (Ok w) = low_from (stage_of w.0) (stage_of w.1)
 low_two (Err e) = tt
 

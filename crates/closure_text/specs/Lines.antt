@@ -8,7 +8,7 @@ use Rattle.text.specs.Counted.{one_of, two_of}
 use Rattle.text.specs.Outcomes.{and_then}
 use Rattle.text.specs.Numbers.{number_of}
 use Rattle.closure_text.specs.declared.line.Request.{Request}
-use Rattle.closure_text.specs.declared.line.Request.TheVariants.{Nothing, Start, Arc}
+use Rattle.closure_text.specs.declared.line.Request.TheVariants.{Start, Arc}
 use Rattle.closure_text.specs.declared.line.LineFault.{LineFault}
 use Rattle.closure_text.specs.declared.line.LineFault.TheVariants.{UnknownWord, WordCount, NotStage}
 
@@ -34,15 +34,15 @@ abbrev pub stage_of : Told → Result ℕ LineFault
 stage_of w = stage_at w.place (number_of w.text)
 
 -- what the words of a line ask for: the first says how many stages follow
-abbrev pub from_words : Place → List Told → Result Request LineFault
+abbrev pub from_words : Place → List Told → Result (Option Request) LineFault
 from_words p [] = Err (WordCount p)
 from_words p (h ∷ ws) =
     cond (bytes_eq h.text (codes "start"))
-    (and_then (ok_or (one_of ws) (WordCount p)) (λ w. and_then (stage_of w) (λ s. Ok (Start s))))
+    (and_then (ok_or (one_of ws) (WordCount p)) (λ w. and_then (stage_of w) (λ s. Ok (Some (Start s)))))
     (cond (bytes_eq h.text (codes "arc"))
-    (and_then (ok_or (two_of ws) (WordCount p)) (λ w. and_then (stage_of w.0) (λ u. and_then (stage_of w.1) (λ v. Ok (Arc u v)))))
+    (and_then (ok_or (two_of ws) (WordCount p)) (λ w. and_then (stage_of w.0) (λ u. and_then (stage_of w.1) (λ v. Ok (Some (Arc u v))))))
     (Err (UnknownWord h.place)))
 
 -- what a line asks for, or why it is refused; a line that is skipped asks for nothing
-abbrev pub request_of : Told → Result Request LineFault
-request_of line = cond (is_skipped_line line.text) (Ok Nothing) (from_words line.place (words line))
+abbrev pub request_of : Told → Result (Option Request) LineFault
+request_of line = cond (is_skipped_line line.text) (Ok None) (from_words line.place (words line))

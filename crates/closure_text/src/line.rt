@@ -10,11 +10,9 @@ use std::error::Error;
 use std::fmt;
 use text::{Part, Parts, Place, number};
 
-/// What a line asks for. A stage is written as a number word from 0 to 255.
+/// What a line asks for, if it is not skipped. A stage is written as a number word from 0 to 255.
 #[derive(Clone, Copy, Debug, PartialEq, Eq)]
 pub enum Request {
-    /// Nothing: an empty line, or one that begins with `#`.
-    Nothing,
     /// `start STAGE`: an order may be at that stage.
     Start { stage: u16 },
     /// `arc FROM TO`: a silent arc leads from the one stage to the other.
@@ -77,12 +75,12 @@ fn stage(word: Part) -> Result<u16, LineFault>
         .ok_or(LineFault::NotStage(word.place))
 }
 
-/// What a line asks for, or why it is refused.
-pub fn read_line(line: Part) -> Result<Request, LineFault>
+/// What a line asks for, or why it is refused; nothing is asked for by an empty line and by one that begins with `#`.
+pub fn read_line(line: Part) -> Result<Option<Request>, LineFault>
     ensures { result ≡ request_of (told line.entry) }
 {
     if line.is_skipped() {
-        return Ok(Request::Nothing);
+        return Ok(None);
     }
     let wrong_count = LineFault::WordCount(line.place);
     let mut words = Parts::words(line);
@@ -91,13 +89,13 @@ pub fn read_line(line: Part) -> Result<Request, LineFault>
         b"start" => {
             let only = words.one().ok_or(wrong_count)?;
             let stage = stage(only)?;
-            Ok(Request::Start { stage })
+            Ok(Some(Request::Start { stage }))
         }
         b"arc" => {
             let (first, second) = words.two().ok_or(wrong_count)?;
             let from = stage(first)?;
             let to = stage(second)?;
-            Ok(Request::Arc { from, to })
+            Ok(Some(Request::Arc { from, to }))
         }
         _ => Err(LineFault::UnknownWord(head.place)),
     }

@@ -30,13 +30,13 @@ impl Reading {
     }
 
     /// With what one more line asks for.
-    fn add(&mut self, answer: Result<Request, LineFault>) -> Result<(), AllocError>
+    fn add(&mut self, answer: Result<Option<Request>, LineFault>) -> Result<(), AllocError>
         ensures { OnOk result (Added answer self.old self.new) }
     {
         match answer {
-            Ok(Request::Nothing) => {}
-            Ok(Request::Start { stage }) => self.starts.push(stage)?,
-            Ok(Request::Arc { from, to }) => {
+            Ok(None) => {}
+            Ok(Some(Request::Start { stage })) => self.starts.push(stage)?,
+            Ok(Some(Request::Arc { from, to })) => {
                 self.arcs.insert(from, to);
             }
             Err(fault) => self.faults.push(fault)?,

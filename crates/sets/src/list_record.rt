@@ -25,9 +25,10 @@ impl ListRecord {
         ensures test { result ≡ passes self.now }
         ensures ascends { IsTrue result ↔ Ascends self.now }
     {
-        self.items
-            .get(..usize::from(self.len))
-            .is_some_and(|listed| ascends(listed))
+        match self.items.get(..usize::from(self.len)) {
+            Some(listed) => ascends(listed),
+            None => false,
+        }
     }
 }
 
