@@ -70,7 +70,7 @@ impl Book {
     {}
 
     /// Whether an arc leaves or enters the stage.
-    // `iter().flatten().any(..)` reads as well, and the checker does not see what it answers.
+    // With `iter().flatten().any(..)` the proof does not close.
     pub(crate) fn has_arcs(&self, stage: u16) -> bool
         ensures { result ≡ joined self.now.arcs stage }
     {

@@ -6,7 +6,7 @@ use Rattle.std.specs.Int.Count.{ones, ones_step}
 use Rattle.std.proofs.lemmas.Nat.Bits.{bit_at_lowest, bit_at-suc}
 use Rattle.std.proofs.lemmas.Bool.{cases_eq}
 use Rattle.sets.specs.Members.{one, size}
-use Rattle.sets.specs.Sizes.{size_alike}
+use Rattle.sets.proofs.Sizes.{size_alike}
 
 pub size_none : (p : ℕ → Bool) → size 0 p ≡ 0
 unfolding size

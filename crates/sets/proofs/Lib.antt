@@ -1,3 +1,4 @@
+pub mod Sizes
 pub mod Counts
 pub mod Rows
 pub mod Lists

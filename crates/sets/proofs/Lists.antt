@@ -11,7 +11,7 @@ use Rattle.std.proofs.lemmas.List.Folds.{list_any_at, list_any_none}
 use Rattle.std.proofs.lemmas.Bool.{false≢true, ltb-true, ltb-false, le-leb, leb-true, eq-eqb, ne_eqb, cases_eq, cases_lt, false_from_ne_true, and_parts, and_from, or_left}
 use Rattle.std.proofs.lemmas.Bool.Decides.{nat_tests}
 use Rattle.sets.specs.Members.{one, size, SameMembers, NextFrom}
-use Rattle.sets.specs.Sizes.{size_alike}
+use Rattle.sets.proofs.Sizes.{size_alike}
 use Rattle.sets.specs.declared.list_record.ListRecord.{ListRecord}
 use Rattle.sets.specs.Ascending.{ascend_from, among}
 use Rattle.sets.specs.ListRecords.{listed, passes, members, Ascends}

@@ -16,7 +16,7 @@ use Rattle.std.proofs.lemmas.Bool.Decides.{nat_tests}
 use Rattle.std.proofs.lemmas.Nat.{div-mul-add, mod-mul-add}
 use Rattle.std.proofs.lemmas.Nat.Bits.{bit_at-zero, bit_at-lt, bit_at_or, bit_at_set_same, bit_at_set_other, bit_at-trailing_zeros, bit_at_above, same_from_bits_below}
 use Rattle.sets.specs.Members.{size, with_member, SameMembers, NextFrom}
-use Rattle.sets.specs.Sizes.{size_alike}
+use Rattle.sets.proofs.Sizes.{size_alike}
 use Rattle.sets.specs.FourWords.{in_row}
 use Rattle.sets.specs.FourWordsLemmas.{row_in, row_out}
 use Rattle.sets.proofs.Counts.{size_none, size_add, size_le, size_of_bits}

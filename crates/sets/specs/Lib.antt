@@ -3,6 +3,5 @@ pub mod FourWords
 pub mod BitRows
 pub mod Ascending
 pub mod ListRecords
-pub mod Sizes
 pub mod FourWordsLemmas
 pub mod ListRecordsLemmas

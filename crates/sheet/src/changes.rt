@@ -16,7 +16,7 @@ pub struct PlacedChange {
 }
 
 /// The changes that a sheet asks for, in the order of its lines: the first `count` of `items`.
-// Not the library's `ArrayVec`: it asks for a default change, which is none, or for an allocator, and it is not `Copy`.
+// Not the library's `ArrayVec`, which is not `Copy`.
 #[derive(Clone, Copy)]
 pub struct Changes {
     pub(crate) items: [PlacedChange; MAX_CHANGES],

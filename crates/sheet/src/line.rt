@@ -10,6 +10,8 @@ use sheet_faults::{LineFault, WordFault};
 use text::{Part, Parts, number};
 
 /// A line of the right form. It borrows its words from the sheet; whether they are number words is not yet known.
+// Its cases are those of `Change`, with words in place of numbers. One enum for both would have a type parameter in every
+// definition of the theory of changes, which knows no words.
 #[derive(Clone, Copy)]
 pub enum Line<'a> {
     /// `stage STAGE MARK`
@@ -40,7 +42,7 @@ pub enum Line<'a> {
     },
 }
 
-/// The words that a line may begin with.
+/// The words that a line may begin with. An enum of its own, since such a word is known before the others are looked at.
 #[derive(Clone, Copy, Debug, PartialEq, Eq)]
 pub(crate) enum Keyword {
     Stage,
@@ -114,6 +116,7 @@ fn arc_at(from: Part, label: Part, to: Part) -> Result<Arc, WordFault>
 
 impl<'a> Line<'a> {
     /// The change that the line asks for. Its first word that is no number word is the fault.
+    // A method and no `TryFrom`: `line.change()?` says at the call what is asked for.
     pub fn change(self) -> Result<Change, LineFault>
         ensures { result ≡ change_of (told_line self.entry) }
     {

@@ -93,6 +93,8 @@ impl Layer {
     }
 }
 
+// The numbers below are given by a `match`: a case can have a number of its own only in an enum whose cases hold nothing,
+// and these hold what is wrong and its place.
 impl WordFault {
     /// The number by which the fault is told: 12 or 14.
     pub fn number(&self) -> u8

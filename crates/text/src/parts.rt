@@ -12,20 +12,23 @@ pub struct Place {
 
 /// A line of a text, or a word of a line, with its place. It keeps the text up to its own end, and not
 /// its bytes alone, so that the offset of each of its bytes surely fits a `usize`.
-// Contracts read a part by `told`: a type that is `Copy` and has a lifetime can have no `impl Model`.
+// Contracts read a part by `told`, its bytes and its place: a type that is `Copy` and has a lifetime can have no
+// `impl Model`.
 #[derive(Clone, Copy)]
 pub struct Part<'a> {
     pub(crate) upto: &'a [u8],
     pub place: Place,
 }
 
-/// The byte between the parts of a text, and by how many lines each such byte takes the line on.
+/// The byte between the parts of a text, and by how many lines each such byte takes the line on: a number that is added
+/// to the line.
 #[derive(Clone, Copy)]
 pub(crate) struct Separator {
     pub(crate) byte: u8,
     pub(crate) lines: usize,
 }
 
+// The library's `split` gives the bytes of the parts, and not where they stand.
 /// The parts of a text that are still to come, in order. The next one begins at the place `next`, if there is one. The
 /// ghost field says that the line stays in range even if all the bytes to come are separators.
 #[derive(Clone, Copy)]

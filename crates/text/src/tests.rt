@@ -68,3 +68,35 @@ fn number_words(rt: HostRuntime) {
     reads(&rt, b"12x", None);
     reads(&rt, b"1000", None);
 }
+
+/// Just so many words, and neither fewer nor more.
+#[test]
+fn counted_words(rt: HostRuntime) -> Result<(), Fail> {
+    let mut lines = Parts::lines(b"a b c\nd e\nf");
+    let words = Parts::words(lines.next().ok_or("no line is left")?);
+    let (first, second, third) = words.three().ok_or("not three words")?;
+    assert!(rt;
+        first.text() == b"a".as_slice()
+            && second.text() == b"b".as_slice()
+            && third.text() == b"c".as_slice()
+    );
+    assert!(rt; words.one().is_none() && words.two().is_none());
+    let words = Parts::words(lines.next().ok_or("no line is left")?);
+    let (first, second) = words.two().ok_or("not two words")?;
+    assert!(rt; first.text() == b"d".as_slice() && second.text() == b"e".as_slice());
+    assert!(rt; words.one().is_none() && words.three().is_none());
+    let words = Parts::words(lines.next().ok_or("no line is left")?);
+    let only = words.one().ok_or("not one word")?;
+    assert!(rt; only.text() == b"f".as_slice());
+    assert!(rt; words.two().is_none() && words.three().is_none());
+    Ok(())
+}
+
+#[test]
+fn skipped_lines(rt: HostRuntime) -> Result<(), Fail> {
+    let mut lines = Parts::lines(b"\n#a\n #a");
+    assert!(rt; lines.next().ok_or("no line is left")?.is_skipped());
+    assert!(rt; lines.next().ok_or("no line is left")?.is_skipped());
+    assert!(rt; !lines.next().ok_or("no line is left")?.is_skipped());
+    Ok(())
+}

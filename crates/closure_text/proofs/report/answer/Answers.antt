@@ -1,7 +1,7 @@
 use Rattle.std.proofs.Common.{◌++◌, vec_items, string_bytes, ◌∙◌, ap₂}
 use Rattle.std.specs.List.{flat_map}
 use Rattle.sets.specs.BitRows.{members}
-use Rattle.sets.specs.Sizes.{size_alike}
+use Rattle.sets.proofs.Sizes.{size_alike}
 use Rattle.closure.specs.Silent.{reached_in}
 use Rattle.closure_text.specs.Reports.{fault_line}
 use Rattle.closure_text.proofs.Writing.{whole_answer}
