@@ -171,10 +171,8 @@ fn digit(byte: u8) -> Option<u16>
     ensures is { result ≡ digit_of byte }
     ensures small { IfSome result (λ d. d < 10) }
 {
-    match byte {
-        b'0'..=b'9' => Some((byte - b'0') as u16),
-        _ => None,
-    }
+    let digit = char::from(byte).to_digit(10)?;
+    Some(digit as u16)
 }
 
 /// The number of a number word: one to three digits, the first not 0 unless it is the only one.

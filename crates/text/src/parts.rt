@@ -12,6 +12,7 @@ pub struct Place {
 
 /// A line of a text, or a word of a line, with its place. It keeps the text up to its own end, and not
 /// its bytes alone, so that the offset of each of its bytes surely fits a `usize`.
+// Contracts read a part by `told`: a type that is `Copy` and has a lifetime can have no `impl Model`.
 #[derive(Clone, Copy)]
 pub struct Part<'a> {
     pub(crate) upto: &'a [u8],
