@@ -65,7 +65,7 @@ fn visit<G: Graph>(graph: &G, queue: &mut Queue, node: u16)
     ensures { let all = G.neighbours graph.now node in
         SawFirst (length all) all (slice_index queue.old.distance.now node + 1) queue.old queue.new }
 {
-    let far = queue.distance[node as usize] + 1;
+    let far = queue.distance[usize::from(node)] + 1;
     for neighbour in Neighbours::of(graph, node) {
         queue.see(neighbour, far);
     }
@@ -120,7 +120,7 @@ pub fn search<G: Graph>(
     ensures { Answered (G.nodes graph.now) (G.neighbours graph.now) starts.now distance.old work.old distance.new work.new result }
 {
     let nodes = graph.node_count();
-    let count = nodes as usize;
+    let count = usize::from(nodes);
     if count > distance.len() || count > work.len() || !all_nodes(starts, nodes) {
         return Err(SearchFault::Unfit);
     }

@@ -14,7 +14,7 @@ loop-neighbour-preserved g c =
     let seen = c.loop-neighbour.yielded in
     let node = c.in-Some.neighbour in
     let at = YieldsList-turn (YieldsList-from_first (λ n. n) (λ it. drop it.place (g.G.Graph.neighbours it.graph.now it.node)) all (search rules)) seen c.loop-neighbour.neighbour-iterator c.loop-neighbour.yielded_by c.next.result c.next.new.self node c.in-Some.is c.next.ensures.steps in
-    let saw : Saw (get_or all (length seen) 0) far c.loop-neighbour.queue c.see.new.self = subst (λ n. Saw n far c.loop-neighbour.queue c.see.new.self) (at.1 ∙ get_or_default_zero all (length seen) node at.0) c.see.ensures in
+    let saw : Saw (get_or all (length seen) 0) far c.loop-neighbour.queue c.see.new.self = subst (λ n. Saw n far c.loop-neighbour.queue c.see.new.self) (at.1 ∙ get_or_default_zero all (length seen) node at.0) (rw c.from.ensures at c.see.ensures) in
     let place = c.requires.visiting.queued in
     let small : far < 65535 = subst (λ n. get_or q.distance.now n 0 + 1 < 65535) place.2 (few q place.0 place.1) in
     subst (λ i. SawFirst i all far q c.see.new.self) (sym (length_push seen node)) (saw_more (length seen) all far small at.0 c.loop-neighbour.invariant saw)
