@@ -1,2 +1,3 @@
 pub mod Arcs
+pub mod Least
 pub mod Paths

@@ -1,8 +1,8 @@
 -- Silent arcs among the stages, which are the numbers below 256, and the paths along them. Assumes nothing.
-use Rattle.std.specs.Prelude.{◌≡◌, ℕ, suc, ◌<◌, Bool, true, false, not, ◌&&◌, ◌||◌, List, map, length, ◌==◌, nat_lt, slice_index, slice_index_or}
+use Rattle.std.specs.Prelude.{◌≡◌, ℕ, suc, ◌<◌, ◌↔◌, Bool, true, false, ◌&&◌, ◌||◌, List, map, length, Some, None, Option, is_some, ◌==◌, nat_lt, slice_index, slice_index_or}
 use Rattle.sets.specs.BitRows.{members}
 use Rattle.sets.specs.declared.bit_row.BitRow.{BitRow}
-use Rattle.search.specs.Walks.{Tells}
+use Rattle.search.specs.Walks.{Least}
 use Rattle.closure.specs.declared.silent_arcs.SilentArcs.{SilentArcs}
 
 -- whether an arc leads from stage u to stage v, where row u holds the stages that arcs from u lead to
@@ -26,10 +26,15 @@ pub data Path (arc : ℕ → ℕ → Bool) (s : ℕ) : ℕ → ℕ → Type 0 wh
 abbrev pub PathFrom : (ℕ → ℕ → Bool) → List ℕ → ℕ → ℕ → Type 0
 PathFrom arc starts v k = (j : ℕ) × (j < length starts) × Path arc (slice_index starts j) v k
 
--- the fewest silent arcs from a start to each stage: place v tells it of stage v, and is 65535 if no path leads there
-abbrev pub FewestArcs : (ℕ → ℕ → Bool) → List ℕ → List ℕ → Type 0
-FewestArcs arc starts steps = (v : ℕ) → v < 256 → Tells (PathFrom arc starts v) (slice_index steps v)
+-- the least number of which P holds, or none if it holds of none
+pub record LeastOrNone (P : ℕ → Type 0) (o : Option ℕ) : Type 0 where
+  pub some : (d : ℕ) → (o ≡ Some d) ↔ Least P d
+  pub none : (o ≡ None) ↔ ((k : ℕ) → P k → ⊥)
+
+-- the fewest silent arcs from a start to each stage: place v has them for stage v, or none if no path leads there
+abbrev pub FewestArcs : (ℕ → ℕ → Bool) → List ℕ → List (Option ℕ) → Type 0
+FewestArcs arc starts steps = (v : ℕ) → v < 256 → LeastOrNone (PathFrom arc starts v) (slice_index_or steps v None)
 
 -- whether a path leads to stage v, by what the steps tell
-abbrev pub reached_in : List ℕ → ℕ → Bool
-reached_in steps v = nat_lt v 256 && not (slice_index steps v == 65535)
+abbrev pub reached_in : List (Option ℕ) → ℕ → Bool
+reached_in steps v = nat_lt v 256 && is_some (slice_index_or steps v None)

@@ -1,6 +1,6 @@
 //! Silent arcs among stages, as a graph.
 
-ghost use Rattle.std.specs.Prelude.{◌≡◌, ℕ, ◌<◌, ◌≤◌, false, not, ◌&&◌, MatchResult, nat_lt};
+ghost use Rattle.std.specs.Prelude.{◌≡◌, ℕ, ◌<◌, ◌≤◌, false, not, ◌&&◌, MatchOption, MatchResult, nat_lt};
 ghost use Rattle.closure.specs.Neighbours.{leads, neighbours_in, lawful_in};
 ghost use Rattle.closure.specs.Silent.{arc_in, has_arc, with_arc, FewestArcs, reached_in};
 ghost use Rattle.sets.specs.BitRows.{members};
@@ -38,7 +38,7 @@ impl SilentArcs {
         ensures { result ≡ has_arc self.now from to }
     {
         self.rows
-            .get(from as usize)
+            .get(usize::from(from))
             .is_some_and(|row| row.contains(to))
     }
 
@@ -57,19 +57,26 @@ impl SilentArcs {
         if from >= STAGES {
             return false;
         }
-        self.rows[from as usize].insert(to)
+        self.rows[usize::from(from)].insert(to)
     }
 
-    /// The fewest silent arcs from a start to each stage, or `NO_DISTANCE` where no path leads. Declined just if a
-    /// start is no stage.
-    pub fn steps_from(&self, starts: &[u16]) -> Result<[u16; 256], SearchFault>
+    /// The fewest silent arcs from a start to each stage, or none where no path leads. Declined just if a start is no
+    /// stage.
+    pub fn steps_from(&self, starts: &[u16]) -> Result<[Option<u16>; 256], SearchFault>
         ensures { MatchResult result (λ steps. Starting 256 starts.now × FewestArcs (has_arc self.now) starts.now steps) (λ _. Starting 256 starts.now → ⊥) }
     {
-        let mut steps = [NO_DISTANCE; 256];
+        let mut distance = [NO_DISTANCE; 256];
         let mut queue = [0; 256];
-        search(self, starts, &mut steps, &mut queue)?;
-        Ok(steps)
+        search(self, starts, &mut distance, &mut queue)?;
+        Ok(distance.map(steps))
     }
+}
+
+/// The steps to a stage that the distance memory of a search tells.
+fn steps(distance: u16) -> Option<u16>
+    ensures { MatchOption result (distance ≡ 65535) (λ d. (d < 65535) × (d ≡ distance)) }
+{
+    (distance != NO_DISTANCE).then_some(distance)
 }
 
 impl Graph for SilentArcs {
@@ -92,12 +99,12 @@ impl Graph for SilentArcs {
 }
 
 /// The stages that a path leads to, by what `steps_from` answers.
-pub fn reached(steps: &[u16; 256]) -> BitRow
+pub fn reached(steps: &[Option<u16>; 256]) -> BitRow
     ensures { (v : ℕ) → members result v ≡ reached_in steps.now v }
 {
     let mut stages = BitRow::empty();
     for (stage, fewest) in steps.iter().enumerate() {
-        if *fewest != NO_DISTANCE {
+        if fewest.is_some() {
             stages.insert(stage as u16);
         }
     }

@@ -1,7 +1,7 @@
 //! Examples of the search over a real graph: the silent arcs among 256 stages.
 
 use crate::silent_arcs::{SilentArcs, reached};
-use search::breadth_first::{NO_DISTANCE, SearchFault, search};
+use search::breadth_first::{SearchFault, search};
 use sets::small_set::SmallSet;
 use std::test::Fail;
 
@@ -21,10 +21,10 @@ fn arcs() -> SilentArcs {
 fn fewest_steps(rt: HostRuntime) -> Result<(), Fail> {
     let arcs = arcs();
     let steps = arcs.steps_from(&[0])?;
-    assert_eq!(rt; steps[0], 0);
-    assert_eq!(rt; steps[255], 2);
-    assert_eq!(rt; steps[7], NO_DISTANCE);
-    assert_eq!(rt; steps[8], NO_DISTANCE);
+    assert_eq!(rt; steps[0], Some(0));
+    assert_eq!(rt; steps[255], Some(2));
+    assert_eq!(rt; steps[7], None);
+    assert_eq!(rt; steps[8], None);
     assert_eq!(rt; reached(&steps).count(), 4);
     let none = arcs.steps_from(&[])?;
     assert_eq!(rt; reached(&none).count(), 0);

@@ -7,7 +7,6 @@ ghost use Rattle.closure_text.specs.Reports.{fault_line, stage_line, stage_lines
 use crate::line::LineFault;
 use crate::reading::{Reading, read};
 use closure::silent_arcs::reached;
-use search::breadth_first::NO_DISTANCE;
 use sets::small_set::SmallSet;
 use std::alloc::{AllocError, Global};
 
@@ -29,12 +28,12 @@ fn write_stage(out: &mut String, stage: usize, steps: u16) -> Result<(), AllocEr
 }
 
 /// Writes a line for each reached stage, in ascending order.
-fn write_stages(out: &mut String, steps: &[u16; 256]) -> Result<(), AllocError>
+fn write_stages(out: &mut String, steps: &[Option<u16>; 256]) -> Result<(), AllocError>
     ensures { OnOk result (string_bytes out.new ≡ string_bytes out.old ++ stage_lines 0 steps.now) }
 {
     for (stage, fewest) in steps.iter().enumerate() {
-        if *fewest != NO_DISTANCE {
-            write_stage(out, stage, *fewest)?;
+        if let Some(fewest) = *fewest {
+            write_stage(out, stage, fewest)?;
         }
     }
     Ok(())
@@ -56,7 +55,7 @@ fn write_counts(
 }
 
 /// The whole answer: the refused lines, the reached stages, and the counts.
-fn answer(heap: Global, reading: &Reading, steps: &[u16; 256]) -> Result<String, AllocError>
+fn answer(heap: Global, reading: &Reading, steps: &[Option<u16>; 256]) -> Result<String, AllocError>
     ensures { IfOk result (λ s. string_bytes s ≡ answer_of reading.now.faults.items reading.now.starts.items steps.now) }
 {
     let mut out = String::new(heap);

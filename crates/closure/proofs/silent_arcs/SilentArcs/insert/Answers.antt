@@ -6,7 +6,7 @@ pub returns : goal.returns
 returns c =
     let rows = c.args.self.now.rows in
     let long : length rows ≡ 256 = omega arith in
-    record {
-      arcs = arc_more rows c.args.from c.args.to c.insert.new.self _ long c.if-from-ge-STAGES.false c.insert.ensures.members;
-      grew = arc_grew rows c.args.from c.args.to _ c.insert.result long c.if-from-ge-STAGES.false c.insert.ensures.grew;
-    }
+    rw c.from.ensures (record {
+      arcs = arc_more rows c.args.from c.args.to c.insert.new.self _ long c.if-from-ge-STAGES.false (rw c.from.ensures at c.insert.ensures.members);
+      grew = arc_grew rows c.args.from c.args.to _ c.insert.result long c.if-from-ge-STAGES.false (rw c.from.ensures at c.insert.ensures.grew);
+    })

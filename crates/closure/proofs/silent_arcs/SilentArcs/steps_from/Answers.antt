@@ -1,7 +1,10 @@
-use Rattle.closure.proofs.Paths.{tells_paths}
+use Rattle.std.proofs.Common.{None}
+use Rattle.closure.proofs.Paths.{least_paths}
 use Rattle.closure.proofs.silent_arcs.SilentArcs.steps_from.Goals as goal
 
 pub returns : goal.returns
 returns c =
-    let answer = c.in_ok-search.ensures in
-    (answer.0.starting, λ v h. tells_paths c.args.self.now.rows c.args.starts.now v _ (answer.1.nodes v h))
+    let answer = c.in_ok-search.ensures in (
+      answer.0.starting,
+      λ v h. least_paths c.args.self.now.rows c.args.starts.now v _ _ (answer.1.nodes v h) (c.map.ensures.items.at v 0 None h).2.met,
+    )
