@@ -1,5 +1,5 @@
-//! The lines and words of a text of bytes, each with its place, and the numbers that words write.
-//! What the words mean is for the caller to say.
+//! The lines and words of a text of bytes, each with its place, which lines are skipped, and the numbers that words
+//! write. What the words mean is for the caller to say.
 
 #![tactic(auto)]
 
@@ -82,7 +82,7 @@ impl<'a> Parts<'a> {
     // An array with the number of parts as a const parameter would be one function for the next three; the checker does
     // not cover arrays of references whose length is such a parameter.
 
-    /// The only part that is to come, if it is one.
+    /// The only part that is to come, if there is just one.
     pub fn one(mut self) -> Option<Part<'a>>
         ensures { option_map told result ≡ one_of (left self.entry) }
     {

@@ -28,9 +28,9 @@ pub(crate) struct Separator {
     pub(crate) lines: usize,
 }
 
-// The library's `split` gives the bytes of the parts, and not where they stand.
 /// The parts of a text that are still to come, in order. The next one begins at the place `next`, if there is one. The
 /// ghost field says that the line stays in range even if all the bytes to come are separators.
+// The library's `split` gives the bytes of the parts, and not where they stand.
 #[derive(Clone, Copy)]
 pub struct Parts<'a> {
     pub(crate) text: &'a [u8],
