@@ -1,6 +1,8 @@
 -- Changes that are written as lines are read back.
 use Rattle.std.proofs.Common.{◌≡◌, ℕ, ◌+◌, ◌*◌, ◌<◌, ◌≤◌, true, false, not, eqb, List, [], ◌∷◌, ◌++◌, map, length, Ok, decimal, sym, refl, ap, ◌∙◌, subst, inl, append_assoc, arith, length-append}
+use Rattle.std.specs.List.{AllByRecursion, flat_map}
 use Rattle.std.proofs.lemmas.Bool.{and_from}
+use Rattle.std.proofs.lemmas.List.{length-map}
 use Rattle.text.specs.Split.{Told, parts}
 use Rattle.text.proofs.First.{tell}
 use Rattle.text.proofs.Numerals.{lacks, numeral}
@@ -14,14 +16,13 @@ use Rattle.sheet.specs.Laws.{LinesOf}
 use Rattle.sheet.proofs.SheetLines.{line_before, read_exactly}
 use Rattle.book_text.specs.Canonical.{line_text}
 
+-- the numbers of changes have at most three digits
 abbrev pub AllSmall : List Change → Type 0
-AllSmall [] = Unit {0}
-AllSmall (c ∷ cs) = Small c × AllSmall cs
+AllSmall = AllByRecursion Small
 
 -- the lines of changes
-unfoldable pub lines_text : List Change → List ℕ
-lines_text [] = []
-lines_text (c ∷ cs) = line_text c ++ lines_text cs
+abbrev pub lines_text : List Change → List ℕ
+lines_text = flat_map line_text
 
 pub line_is : (c : Change) (rest : List ℕ) → line_text c ++ rest ≡ change_line c ++ (10 ∷ rest)
 line_is c rest = append_assoc (change_line c) (10 ∷ []) rest
@@ -40,7 +41,7 @@ no_end (Arc a) s = lacks_three a.from a.label a.to s
 no_end (Cut a) s = lacks_three a.from a.label a.to s
 no_end (Mark n m) s = lacks_two 10 (decimal n) (decimal m) refl (numeral n s.0).no_end (numeral m s.1).no_end
 
--- a line has at most 16 bytes
+-- the line of a change has at most 15 bytes
 short_two : (n m : ℕ) → (n < 1000) × (m < 1000) → length (decimal n ++ (32 ∷ decimal m)) ≤ 7
 short_two n m s = omega (arith, length-append (decimal n) (32 ∷ decimal m), (numeral n s.0).short, (numeral m s.1).short)
 
@@ -54,29 +55,20 @@ short_change (Arc a) s = omega (arith, short_three a.from a.label a.to s)
 short_change (Cut a) s = omega (arith, short_three a.from a.label a.to s)
 short_change (Mark n m) s = omega (arith, short_two n m s)
 
-short_line : (c : Change) → Small c → length (line_text c) ≤ 16
-short_line c s = omega (arith, length-append (change_line c) (10 ∷ []), short_change c s)
-
 short_text : (cs : List Change) → AllSmall cs → length (lines_text cs) ≤ 16 * length cs
-unfolding lines_text
 short_text [] s = omega arith
-short_text (c ∷ cs) s = omega (arith, length-append (line_text c) (lines_text cs), short_line c s.0, short_text cs s.1)
+short_text (c ∷ cs) s = omega (arith, length-append (line_text c) (lines_text cs), length-append (change_line c) (10 ∷ []), short_change c s.0, short_text cs s.1)
 
 -- the changes that are read, each with the place of its line
 abbrev items_from : ℕ → ℕ → List Change → List PlacedChange
 items_from line at [] = []
 items_from line at (c ∷ cs) = record { change = c; place = record { line = line; offset = at } } ∷ items_from (line + 1) (at + (length (change_line c) + 1)) cs
 
-items_count : (line at : ℕ) (cs : List Change) → length (items_from line at cs) ≡ length cs
-items_count line at [] = refl
-items_count line at (c ∷ cs) = let r = items_count (line + 1) (at + (length (change_line c) + 1)) cs in omega arith
-
 items_changes : (line at : ℕ) (cs : List Change) → map (λ x. x.change) (items_from line at cs) ≡ cs
 items_changes line at [] = refl
 items_changes line at (c ∷ cs) = ap (λ (xs : List Change). c ∷ xs) (items_changes (line + 1) (at + (length (change_line c) + 1)) cs)
 
 lines_of_changes : (cs : List Change) → AllSmall cs → (line at : ℕ) → LinesOf (parts 10 1 line at (lines_text cs)) (items_from line at cs)
-unfolding lines_text
 lines_of_changes [] s line at = inl (refl, refl)
 lines_of_changes (c ∷ cs) s line at =
     let rest = lines_of_changes cs s.1 (line + 1) (at + (length (change_line c) + 1)) in
@@ -88,6 +80,6 @@ lines_of_changes (c ∷ cs) s line at =
 pub reads_back : (cs : List Change) → AllSmall cs → length cs ≤ 64 → (items : List PlacedChange) × (sheet_of (lines_text cs) ≡ Ok items) × (map (λ x. x.change) items ≡ cs)
 reads_back cs s le = (
   items_from 1 0 cs,
-  (read_exactly (lines_text cs) (items_from 1 0 cs)).1 (omega (arith, short_text cs s), omega (arith, items_count 1 0 cs), lines_of_changes cs s 1 0),
+  (read_exactly (lines_text cs) (items_from 1 0 cs)).1 (omega (arith, short_text cs s), omega (arith, length-map (items_from 1 0 cs) (λ (x : PlacedChange). x.change), ap length (items_changes 1 0 cs)), lines_of_changes cs s 1 0),
   items_changes 1 0 cs,
 )

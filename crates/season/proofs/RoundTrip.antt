@@ -1,7 +1,9 @@
 -- A book's canonical text, read again as a season, makes a book alike.
-use Rattle.std.proofs.Common.{◌≡◌, ℕ, zero, suc, ◌+◌, ◌<◌, ◌≤◌, Bool, true, false, cond, eqb, leb, List, [], ◌∷◌, ◌++◌, map, length, Some, None, Ok, codes, decimal, Option, Result, sym, refl, ap, ◌∙◌, subst, inl, inr, append_assoc, arith, length-append}
+use Rattle.std.proofs.Common.{◌≡◌, ℕ, zero, suc, ◌+◌, ◌<◌, ◌≤◌, Bool, true, false, cond, eqb, leb, List, [], ◌∷◌, ◌++◌, map, length, Some, None, Ok, codes, decimal, Option, Result, sym, refl, ap, ◌∙◌, subst, inl, inr, arith, length-append}
 use Rattle.std.specs.Str.{bytes_eq}
 use Rattle.std.proofs.lemmas.Bool.{le-leb, and_from}
+use Rattle.std.proofs.lemmas.Grind.{flat_map-append}
+use Rattle.std.proofs.lemmas.List.Elements.{All-from_recursion, recursion_from_All, All-append}
 use Rattle.text.specs.Split.{Told, parts}
 use Rattle.rules.specs.declared.change.Arc.{Arc as AnArc}
 use Rattle.rules.specs.declared.change.Change.{Change}
@@ -63,8 +65,7 @@ one_sheet W cs b after s le h =
     )
 
 small_append : (xs ys : List Change) → AllSmall xs → AllSmall ys → AllSmall (xs ++ ys)
-small_append [] ys p q = q
-small_append (x ∷ xs) ys p q = (p.0, small_append xs ys p.1 q)
+small_append xs ys p q = recursion_from_All Small (xs ++ ys) (All-append Small xs ys (All-from_recursion Small xs p) (All-from_recursion Small ys q))
 
 not_end : (c : Change) → bytes_eq (change_line c) (codes "end") ≡ false
 not_end (Stage n m) = refl
@@ -74,9 +75,7 @@ not_end (Cut a) = refl
 not_end (Mark n m) = refl
 
 lines_push : (done : List Change) (c : Change) → lines_text (done ++ c ∷ []) ≡ lines_text done ++ (change_line c ++ (10 ∷ []))
-unfolding lines_text
-lines_push [] c = line_is c []
-lines_push (x ∷ xs) c = ap (λ (t : List ℕ). line_text x ++ t) (lines_push xs c) ∙ sym (append_assoc (line_text x) (lines_text xs) (change_line c ++ (10 ∷ [])))
+lines_push done c = flat_map-append line_text done (c ∷ []) ∙ ap (λ (t : List ℕ). lines_text done ++ t) (line_is c [])
 
 -- one more line of a sheet is read
 line_read : (done : List Change) (c : Change) (ls : List (List ℕ)) → sheets_from (lines_text done) (change_line c ∷ ls) ≡ sheets_from (lines_text (done ++ c ∷ [])) ls
@@ -87,7 +86,6 @@ line_read done c ls =
 -- the sheets of changes, of which some stand in the sheet that is being read, are accepted
 accepted : (W : ℕ) (cs : List Change) (room : ℕ) (done : List Change) (b now after : Rules) → AllSmall done → AllSmall cs → length done + room ≡ 64 →
     Leads W done b now → Leads W cs now after → Accepted W b (sheets_from (lines_text done) (sheet_lines room cs)) after
-unfolding lines_text
 accepted W [] room done b now after p q r h k = let s = one_sheet W done b now p (omega arith) h in (s.0, now, s.1, k)
 accepted W (c ∷ cs) zero done b now after p q r h k =
     let s = one_sheet W done b now p (omega arith) h in
@@ -136,7 +134,6 @@ events_of_lem E ls p q =
     ∙ ap (λ (v : Bool). cond {A = Option ℕ} v (Some E) None) (and_from (leb 1 E) (leb E 15) (le-leb 1 E (omega arith)) (le-leb E 15 q))
 
 pub canonical_reads_back : ReadsBack
-unfolding lines_text
 canonical_reads_back W b text wide g q =
     let E = b.events in
     let r = rebuilt W b q.changes wide g q.canonical in

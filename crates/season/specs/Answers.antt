@@ -2,15 +2,14 @@
 use Rattle.std.specs.Prelude.{◌≡◌, ℕ, List, [], ◌∷◌, ◌++◌, Some, None, Ok, Err, codes, decimal, Option, Result}
 use Rattle.rules.specs.Rules.{Rules, fresh}
 use Rattle.sheet_faults.specs.declared.SheetFault.{SheetFault}
-use Rattle.sheet_faults.specs.Faults.{sheet_number, sheet_place}
+use Rattle.sheet_faults.specs.Faults.{fault_words}
 use Rattle.book_update.specs.Updates.{sheet_applied}
 use Rattle.book_text.specs.Canonical.{CanonicalText}
 use Rattle.season_text.specs.Seasons.{line_texts, events_of, sheets_of}
 
 -- The answer to a sheet that is refused: `no`, and the fault's number, line and offset.
 abbrev pub fault_text : SheetFault → List ℕ
-fault_text f =
-    codes "no " ++ (decimal (sheet_number f) ++ (32 ∷ (decimal (sheet_place f).line ++ (32 ∷ (decimal (sheet_place f).offset ++ (10 ∷ []))))))
+fault_text f = codes "no " ++ (fault_words f ++ (10 ∷ []))
 
 -- The answer to a sheet, from what it makes of the book.
 abbrev pub answer_text : Result (ℕ × Rules) SheetFault → List ℕ

@@ -2,19 +2,17 @@
 
 #![tactic(auto)]
 
-ghost use Rattle.std.specs.Prelude.{◌≡◌, ◌++◌, IfOk, string_bytes, OnOk};
+ghost use Rattle.std.specs.Prelude.{IfOk, string_bytes, OnOk};
 ghost use Rattle.book.specs.Records.{rules_of};
 ghost use Rattle.season_text.specs.Seasons.{sheets_of};
 ghost use Rattle.season.specs.RoundTrip.{ReadsBack};
-ghost use Rattle.season.specs.Answers.{fault_text, SheetAnswered, Answered, Checked, Responds};
+ghost use Rattle.season.specs.Answers.{SheetAnswered, Answered, Checked, Responds};
 
 use book::Book;
 use book_text::write_book;
 use book_update::apply_sheet;
 use season_text::{Sheets, events};
-use sheet_faults::SheetFault;
 use std::alloc::{AllocError, Global};
-use text::Place;
 
 mod round_trip;
 
@@ -65,15 +63,6 @@ fn check_sheet(text: &mut String, book: &mut Book, sheet: &[u8]) -> Result<(), A
 {
     match apply_sheet(book, WIDTH, sheet) {
         Ok(changes) => write!(text, "ok {changes}\n"),
-        Err(fault) => write_fault(text, fault),
+        Err(fault) => write!(text, "no {fault}\n"),
     }
-}
-
-/// Writes the answer to a sheet that is refused.
-fn write_fault(text: &mut String, fault: SheetFault) -> Result<(), AllocError>
-    ensures { OnOk result (string_bytes text.new ≡ string_bytes text.old ++ fault_text fault) }
-{
-    let number = fault.number();
-    let Place { line, offset } = fault.place();
-    write!(text, "no {number} {line} {offset}\n")
 }

@@ -1,5 +1,5 @@
 -- The number, the layer and the place of each fault of a sheet.
-use Rattle.std.specs.Prelude.{ℕ, Ok, Err, Result}
+use Rattle.std.specs.Prelude.{ℕ, List, ◌∷◌, ◌++◌, Ok, Err, decimal, Result}
 use Rattle.text.specs.declared.parts.Place.{Place}
 use Rattle.rules.specs.Changes.{fault_number}
 use Rattle.sheet_faults.specs.declared.Layer.{Layer}
@@ -60,6 +60,10 @@ abbrev pub sheet_place : SheetFault → Place
 sheet_place TooLong = record { line = 0; offset = 0 }
 sheet_place (Line l) = line_place l
 sheet_place (Book d) = declined_place d
+
+-- What is written of a fault: its number, and the line and the offset of its place, with a space between each two.
+abbrev pub fault_words : SheetFault → List ℕ
+fault_words f = decimal (sheet_number f) ++ (32 ∷ (decimal (sheet_place f).line ++ (32 ∷ decimal (sheet_place f).offset)))
 
 -- A result whose fault is a word's, taken for one of the line.
 abbrev pub in_line : {A : Type 0} → Result A WordFault → Result A LineFault

@@ -2,12 +2,14 @@
 
 #![tactic(auto)]
 
-ghost use Rattle.std.specs.Prelude.{◌≡◌};
+ghost use Rattle.std.specs.Prelude.{◌≡◌, Some};
 ghost use Rattle.sheet_faults.specs.declared.LineFault.TheVariants.{Word as InWord};
 ghost use Rattle.sheet_faults.specs.declared.SheetFault.TheVariants.{Line as InLine, Book as InBook};
-ghost use Rattle.sheet_faults.specs.Faults.{word_number, word_place, line_number, line_place, declined_number, declined_place, sheet_number, layer_number, sheet_layer, sheet_place};
+ghost use Rattle.sheet_faults.specs.Faults.{word_number, word_place, line_number, line_place, declined_number, declined_place, sheet_number, layer_number, sheet_layer, sheet_place, fault_words};
 
 use rules::BookFault;
+use std::error::Error;
+use std::fmt;
 use text::Place;
 
 /// A word that is not what its line needs there, with the word's place in the sheet.
@@ -93,8 +95,8 @@ impl Layer {
     }
 }
 
-// The numbers below are given by a `match`: a case can have a number of its own only in an enum whose cases hold nothing,
-// and these hold what is wrong and its place.
+// `WordFault`, `LineFault` and `SheetFault` give their numbers by a `match`, since a case can have a number of its own only in
+// an enum none of whose cases holds anything.
 impl WordFault {
     /// The number by which the fault is told: 12 or 14.
     pub fn number(&self) -> u8
@@ -189,3 +191,16 @@ impl SheetFault {
         }
     }
 }
+
+/// A fault is told by its number, and the line and the offset of its place.
+impl fmt::Display for SheetFault {
+    ghost output = { λ f. Some (fault_words f) };
+
+    fn fmt<W: fmt::Write>(&self, f: &mut fmt::Formatter<W>) -> fmt::Result {
+        let number = self.number();
+        let Place { line, offset } = self.place();
+        write!(f, "{number} {line} {offset}")
+    }
+}
+
+impl Error for SheetFault {}
