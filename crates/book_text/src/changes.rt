@@ -67,8 +67,5 @@ fn arcs_of(heap: Global, slots: &[Option<Arc>]) -> Result<Vec<Arc>, AllocError>
 fn push_arcs(changes: &mut Vec<Change>, arcs: &[Arc]) -> Result<(), AllocError>
     ensures { OnOk result (changes.new.items ≡ changes.old.items ++ map Added arcs.now) }
 {
-    for arc in arcs {
-        changes.push(Change::Arc(*arc))?;
-    }
-    Ok(())
+    changes.extend(arcs.iter().map(|arc| Change::Arc(*arc)))
 }
