@@ -7,6 +7,6 @@ use Rattle.book_text.proofs.changes.push_arcs.Goals as goal
 pub returns : goal.returns
 returns c =
     let all =
-        items_from_extend c.extend.result c.extend.ensures.ran
-        (YieldsList-from_map _ Arc (YieldsList-from_slice c.args.arcs.now (search rules)) c.map.ensures.closure (λ x r q k. search rules)) in
+    items_from_extend c.extend.result c.extend.ensures.ran
+    (YieldsList-from_map _ Arc (YieldsList-from_slice c.args.arcs.now (search rules)) c.map.ensures.closure (λ x r q k. search rules)) in
     search rules
