@@ -57,9 +57,7 @@ fn events_from_1_to_15(rt: HostRuntime) {
 
 #[test]
 fn stages_below_the_width(rt: HostRuntime) -> Result<(), Fail> {
-    let Some(mut book) = Book::fresh(2) else {
-        return Err(Fail::new("no book"));
-    };
+    let mut book = Book::fresh(2).ok_or("no book")?;
     made(&rt, &mut book, 256, stage(255, 0));
     declined(&rt, &mut book, 256, stage(256, 0), 21)?;
     declined(&rt, &mut book, 1000, stage(256, 0), 21)?;
@@ -69,9 +67,7 @@ fn stages_below_the_width(rt: HostRuntime) -> Result<(), Fail> {
 
 #[test]
 fn labels_and_marks(rt: HostRuntime) -> Result<(), Fail> {
-    let Some(mut book) = Book::fresh(2) else {
-        return Err(Fail::new("no book"));
-    };
+    let mut book = Book::fresh(2).ok_or("no book")?;
     made(&rt, &mut book, 64, arc(0, 2, 0));
     declined(&rt, &mut book, 64, arc(0, 3, 0), 21)?;
     made(&rt, &mut book, 64, mark(0, 7));
@@ -82,9 +78,7 @@ fn labels_and_marks(rt: HostRuntime) -> Result<(), Fail> {
 
 #[test]
 fn book_full_at_1024_arcs(rt: HostRuntime) -> Result<(), Fail> {
-    let Some(mut book) = Book::fresh(15) else {
-        return Err(Fail::new("no book"));
-    };
+    let mut book = Book::fresh(15).ok_or("no book")?;
     for n in 1..64 {
         made(&rt, &mut book, 64, stage(n, 0));
     }
@@ -103,9 +97,7 @@ fn book_full_at_1024_arcs(rt: HostRuntime) -> Result<(), Fail> {
 
 #[test]
 fn first_fault_is_told(rt: HostRuntime) -> Result<(), Fail> {
-    let Some(mut book) = Book::fresh(2) else {
-        return Err(Fail::new("no book"));
-    };
+    let mut book = Book::fresh(2).ok_or("no book")?;
     made(&rt, &mut book, 64, arc(0, 1, 0));
     declined(&rt, &mut book, 64, stage(0, 8), 21)?;
     declined(&rt, &mut book, 64, mark(5, 8), 21)?;
@@ -118,9 +110,7 @@ fn first_fault_is_told(rt: HostRuntime) -> Result<(), Fail> {
 /// A change that is declined leaves the book as it was.
 #[test]
 fn declined_alters_nothing(rt: HostRuntime) -> Result<(), Fail> {
-    let Some(mut book) = Book::fresh(2) else {
-        return Err(Fail::new("no book"));
-    };
+    let mut book = Book::fresh(2).ok_or("no book")?;
     made(&rt, &mut book, 64, stage(1, 3));
     made(&rt, &mut book, 64, arc(0, 2, 1));
     declined(&rt, &mut book, 64, stage(1, 5), 23)?;
@@ -148,9 +138,7 @@ fn declined_alters_nothing(rt: HostRuntime) -> Result<(), Fail> {
 
 #[test]
 fn stage_again_after_drop(rt: HostRuntime) -> Result<(), Fail> {
-    let Some(mut book) = Book::fresh(2) else {
-        return Err(Fail::new("no book"));
-    };
+    let mut book = Book::fresh(2).ok_or("no book")?;
     made(&rt, &mut book, 64, stage(1, 3));
     made(&rt, &mut book, 64, drop(1));
     assert!(rt; !book.is_live(1));

@@ -2,6 +2,7 @@
 
 ghost use Rattle.std.specs.Prelude.{◌≡◌, ◌++◌, map, IfOk, OnOk};
 ghost use Rattle.std.specs.List.{filter_map};
+ghost use Rattle.std.specs.Option.{option_to_list};
 ghost use Rattle.rules.specs.declared.change.Change.TheVariants.{Arc as Added};
 ghost use Rattle.book.specs.Records.{rules_of};
 ghost use Rattle.book_text.specs.Canonical.{stage_change, stage_changes, ArcsInOrder, CanonicalChanges};
@@ -16,35 +17,33 @@ use std::alloc::{AllocError, Global};
 pub fn canonical_changes(heap: Global, book: &Book) -> Result<Vec<Change>, AllocError>
     ensures { IfOk result (λ v. CanonicalChanges (rules_of book.now) v.items) }
 {
-    let mut changes = Vec::new(heap);
-    push_stages(&mut changes, book)?;
+    let mut changes = stage_changes(heap, book)?;
     let arcs = sorted_arcs(heap, book)?;
     push_arcs(&mut changes, arcs.as_slice())?;
     Ok(changes)
 }
 
-/// Adds the changes that make the live stages.
-#[tactic(auto, unfolding(rules::specs::Listing::each_below))]
-fn push_stages(changes: &mut Vec<Change>, book: &Book) -> Result<(), AllocError>
-    ensures { OnOk result (changes.new.items ≡ changes.old.items ++ stage_changes (rules_of book.now)) }
+/// The changes that make the live stages.
+fn stage_changes(heap: Global, book: &Book) -> Result<Vec<Change>, AllocError>
+    ensures { IfOk result (λ v. v.items ≡ stage_changes (rules_of book.now)) }
 {
-    for stage in 0..256 {
-        push_stage(changes, book, stage)?;
-    }
-    Ok(())
+    (0..256)
+        .filter_map(|stage| stage_change(book, stage))
+        .collect(heap)
 }
 
-/// Adds the change that makes the stage, if it is live.
-fn push_stage(changes: &mut Vec<Change>, book: &Book, stage: u16) -> Result<(), AllocError>
-    ensures { OnOk result (changes.new.items ≡ changes.old.items ++ stage_change (rules_of book.now) stage) }
+/// The change that makes the stage, if it is live.
+fn stage_change(book: &Book, stage: u16) -> Option<Change>
+    ensures { option_to_list result ≡ stage_change (rules_of book.now) stage }
 {
     let mark = u16::from(book.mark_of(stage));
     if stage == 0 {
-        changes.push(Change::Mark { stage, mark })?;
+        Some(Change::Mark { stage, mark })
     } else if book.is_live(stage) {
-        changes.push(Change::Stage { stage, mark })?;
+        Some(Change::Stage { stage, mark })
+    } else {
+        None
     }
-    Ok(())
 }
 
 /// The arcs in ascending order.
@@ -67,8 +66,5 @@ fn arcs_of(heap: Global, slots: &[Option<Arc>]) -> Result<Vec<Arc>, AllocError>
 fn push_arcs(changes: &mut Vec<Change>, arcs: &[Arc]) -> Result<(), AllocError>
     ensures { OnOk result (changes.new.items ≡ changes.old.items ++ map Added arcs.now) }
 {
-    for arc in arcs {
-        changes.push(Change::Arc(*arc))?;
-    }
-    Ok(())
+    changes.extend(arcs.iter().map(|arc| Change::Arc(*arc)))
 }

@@ -20,9 +20,7 @@ fn arc(rt: &impl Abort, book: &mut Book, from: u16, label: u16, to: u16) {
 /// Stages and arcs come out in order, whatever the order in which they were made.
 #[test]
 fn in_order(rt: HostRuntime) -> Result<(), Fail> {
-    let Some(mut book) = Book::fresh(2) else {
-        return Err(Fail::new("no book"));
-    };
+    let mut book = Book::fresh(2).ok_or("no book")?;
     stage(&rt, &mut book, 2, 7);
     stage(&rt, &mut book, 1, 0);
     arc(&rt, &mut book, 2, 0, 0);
@@ -40,9 +38,7 @@ fn in_order(rt: HostRuntime) -> Result<(), Fail> {
 /// The 65th change stands in a second sheet.
 #[test]
 fn at_most_64_changes_in_a_sheet(rt: HostRuntime) -> Result<(), Fail> {
-    let Some(mut book) = Book::fresh(1) else {
-        return Err(Fail::new("no book"));
-    };
+    let mut book = Book::fresh(1).ok_or("no book")?;
     for n in 1..64 {
         stage(&rt, &mut book, n, 0);
     }

@@ -7,12 +7,8 @@ ghost use Rattle.book_text.specs.Canonical.{line_text, CanonicalText, CanonicalL
 
 use crate::changes::canonical_changes;
 use book::Book;
-use rules::Change;
+use rules::{Change, MAX_CHANGES};
 use std::alloc::{AllocError, Global};
-
-/// How many changes a sheet may have.
-// A number of the format, which `sheet` has too: for it alone the writer would depend on the reader.
-const MOST_CHANGES: usize = 64;
 
 /// The canonical text of a book: the number of events on the first line, and then the changes that make
 /// the book of a fresh one, in sheets, each with a line `end` after it.
@@ -30,7 +26,7 @@ fn written(heap: Global, book: &Book) -> Result<String, AllocError>
     let changes = canonical_changes(heap, book)?;
     let events = book.events();
     let mut text = format!(in heap; "{events}\n")?;
-    for sheet in changes.chunks(MOST_CHANGES) {
+    for sheet in changes.chunks(MAX_CHANGES) {
         write_lines(&mut text, sheet)?;
         text.push_str("end\n")?;
     }

@@ -14,16 +14,9 @@ fn accepts(
     sheet: &[u8],
     changes: usize,
 ) -> Result<(), Fail> {
-    match apply_sheet(book, width, sheet) {
-        Ok(made) => {
-            assert_eq!(rt; made, changes);
-            Ok(())
-        },
-        Err(fault) => {
-            assert_eq!(rt; fault.number(), 0);
-            Ok(())
-        },
-    }
+    let made = apply_sheet(book, width, sheet)?;
+    assert_eq!(rt; made, changes);
+    Ok(())
 }
 
 /// The sheet is refused by this fault on this line, at this offset.
@@ -50,9 +43,7 @@ fn refuses(
 /// What a refused sheet would have changed is as it was, and a later sheet is accepted.
 #[test]
 fn refused_sheet_changes_nothing(rt: HostRuntime) -> Result<(), Fail> {
-    let Some(mut book) = Book::fresh(2) else {
-        return Err(Fail::new("no book"));
-    };
+    let mut book = Book::fresh(2).ok_or("no book")?;
     accepts(&rt, &mut book, 256, b"stage 1 0\n\n# remark\narc 0 1 1", 2)?;
     refuses(
         &rt,
@@ -79,18 +70,14 @@ fn refused_sheet_changes_nothing(rt: HostRuntime) -> Result<(), Fail> {
 /// The text is read to its end before the book is asked.
 #[test]
 fn text_faults_come_first(rt: HostRuntime) -> Result<(), Fail> {
-    let Some(mut book) = Book::fresh(2) else {
-        return Err(Fail::new("no book"));
-    };
+    let mut book = Book::fresh(2).ok_or("no book")?;
     refuses(&rt, &mut book, 256, b"drop 0\nmark 1 07", 14, 2, 14)?;
     refuses(&rt, &mut book, 256, b"drop 0\nmark 1 7", 24, 1, 0)
 }
 
 #[test]
 fn width(rt: HostRuntime) -> Result<(), Fail> {
-    let Some(mut book) = Book::fresh(2) else {
-        return Err(Fail::new("no book"));
-    };
+    let mut book = Book::fresh(2).ok_or("no book")?;
     refuses(&rt, &mut book, 64, b"stage 64 0", 21, 1, 0)?;
     accepts(&rt, &mut book, 64, b"stage 63 0", 1)?;
     accepts(&rt, &mut book, 256, b"stage 255 0", 1)

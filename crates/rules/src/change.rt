@@ -6,6 +6,9 @@ ghost use Rattle.rules.specs.ChangeLines.{arc_text, change_line};
 
 use std::fmt;
 
+/// The most changes that a sheet may ask for.
+pub const MAX_CHANGES: usize = 64;
+
 /// An arc of a rule book: it leads from a stage to a stage by the event that is its label or, where the
 /// label is 0, silently. Arcs are in the order of from stage, label and to stage.
 #[derive(Clone, Copy, Debug, PartialEq, Eq, PartialOrd, Ord)]
@@ -26,7 +29,8 @@ impl fmt::Display for Arc {
 
 /// One change of a rule book. Stages, labels and marks are as the sheet has them: whether they are in
 /// range is for the book to say.
-// A stage and its mark are two fields: a struct for them would serve two functions and say no more.
+// No struct for a stage and its mark: the two functions of `book` that make a stage and set a mark would use it, and it
+// would say no more than the two fields.
 #[derive(Clone, Copy, Debug, PartialEq, Eq)]
 pub enum Change {
     /// Makes a stage live, with a mark.

@@ -6,7 +6,7 @@
 mod change;
 mod theorems;
 
-pub use change::{Arc, BookFault, Change};
+pub use change::{Arc, BookFault, Change, MAX_CHANGES};
 pub use theorems::{
     alteration_laws_hold, change_laws_hold, image_laws_hold, order_laws_hold, path_laws_hold,
     report_laws_hold, table_laws_hold, turn_laws_hold,

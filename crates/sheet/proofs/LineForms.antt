@@ -14,7 +14,7 @@ use Rattle.rules.specs.declared.change.Change.{Change}
 use Rattle.rules.specs.declared.change.Change.TheVariants.{Stage, Drop, Arc, Cut, Mark}
 use Rattle.rules.specs.ChangeLines.{change_line, Small}
 use Rattle.sheet_faults.specs.declared.WordFault.{WordFault}
-use Rattle.sheet_faults.specs.declared.WordFault.TheVariants.{UnknownKeyword}
+use Rattle.sheet_faults.specs.declared.WordFault.TheVariants.{UnknownKeyword, NotANumber}
 use Rattle.sheet_faults.specs.declared.LineFault.{LineFault}
 use Rattle.sheet_faults.specs.declared.LineFault.TheVariants.{WordCount}
 use Rattle.sheet_faults.specs.Faults.{in_line}
@@ -23,7 +23,7 @@ use Rattle.sheet.specs.declared.line.Keyword.{Keyword}
 use Rattle.sheet.specs.declared.line.Keyword.TheVariants as keyword
 use Rattle.text.specs.Outcomes.{over, and_then}
 use Rattle.text.specs.Counted.{one_of, two_of, three_of}
-use Rattle.sheet.specs.Lines.{ToldLine, stage, dropped, arc, cut, mark, keyword_of, form_of, from_words, line_of, number_or, number_of_word, two_numbers_of, arc_of, numbered, change_of}
+use Rattle.sheet.specs.Lines.{ToldLine, stage, dropped, arc, cut, mark, keyword_of, form_of, from_words, line_of, number_of_word, two_numbers_of, arc_of, numbered, change_of}
 use Rattle.sheet.specs.Sheets.{placed_of}
 use Rattle.sheet.specs.Laws.{LineOf}
 
@@ -43,16 +43,16 @@ pair x y = and_then x (λ i. over (λ j. (i, j)) y)
 abbrev triple : Result ℕ WordFault → Result ℕ WordFault → Result ℕ WordFault → Result AnArc WordFault
 triple x y z = and_then x (λ m. over (λ q. record { from = m; label = q.0; to = q.1 }) (pair y z))
 
-one_told : (p u : Place) (x : Option ℕ) (n : ℕ) (f : ℕ → Change) → x ≡ Some n → with_place p (over f (number_or u x)) ≡ placed p (f n)
-one_told p u x n f h = λ i. with_place p (over f (number_or u (h i)))
+one_told : (p u : Place) (x : Option ℕ) (n : ℕ) (f : ℕ → Change) → x ≡ Some n → with_place p (over f (ok_or x (NotANumber u))) ≡ placed p (f n)
+one_told p u x n f h = λ i. with_place p (over f (ok_or (h i) (NotANumber u)))
 
 two_told : (p u v : Place) (x y : Option ℕ) (n m : ℕ) (f : ℕ → ℕ → Change) → x ≡ Some n → y ≡ Some m →
-    with_place p (over (λ (z : ℕ × ℕ). f z.0 z.1) (pair (number_or u x) (number_or v y))) ≡ placed p (f n m)
-two_told p u v x y n m f h k = λ i. with_place p (over (λ (z : ℕ × ℕ). f z.0 z.1) (pair (number_or u (h i)) (number_or v (k i))))
+    with_place p (over (λ (z : ℕ × ℕ). f z.0 z.1) (pair (ok_or x (NotANumber u)) (ok_or y (NotANumber v)))) ≡ placed p (f n m)
+two_told p u v x y n m f h k = λ i. with_place p (over (λ (z : ℕ × ℕ). f z.0 z.1) (pair (ok_or (h i) (NotANumber u)) (ok_or (k i) (NotANumber v))))
 
 three_told : (p u v w : Place) (x y z : Option ℕ) (a : AnArc) (f : AnArc → Change) → x ≡ Some a.from → y ≡ Some a.label → z ≡ Some a.to →
-    with_place p (over f (triple (number_or u x) (number_or v y) (number_or w z))) ≡ placed p (f a)
-three_told p u v w x y z a f h k l = λ i. with_place p (over f (triple (number_or u (h i)) (number_or v (k i)) (number_or w (l i))))
+    with_place p (over f (triple (ok_or x (NotANumber u)) (ok_or y (NotANumber v)) (ok_or z (NotANumber w)))) ≡ placed p (f a)
+three_told p u v w x y z a f h k l = λ i. with_place p (over f (triple (ok_or (h i) (NotANumber u)) (ok_or (k i) (NotANumber v)) (ok_or (l i) (NotANumber w))))
 
 reads : (ch : Change) → Small ch → (p : Place) → placed_of (record { text = change_line ch; place = p }) ≡ placed p ch
 reads (Stage n m) s p =
@@ -118,16 +118,12 @@ form_text (cut m e n) = codes "cut" ++ (32 ∷ (m.text ++ (32 ∷ (e.text ++ (32
 form_text (mark n m) = codes "mark" ++ (32 ∷ (n.text ++ (32 ∷ m.text)))
 
 -- numbers
-number_or_ok : (p : Place) (o : Option ℕ) (n : ℕ) → number_or p o ≡ Ok n → o ≡ Some n
-number_or_ok p None n h = absurd (err_ok _ n h)
-number_or_ok p (Some m) n h = ap {B = Option ℕ} Some (ok_same m n h)
-
 record Written (w : Told) (n : ℕ) : Type 0 where
   pub small : n < 1000
   pub text : w.text ≡ decimal n
 
 number_ok : (w : Told) (n : ℕ) → number_of_word w ≡ Ok n → Written w n
-number_ok w n h = let r = number_words.only w.text n (number_or_ok w.place (number_of w.text) n h) in record { small = r.0; text = r.1 }
+number_ok w n h = let r = number_words.only w.text n (ok_or_ok (number_of w.text) (NotANumber w.place) n h) in record { small = r.0; text = r.1 }
 
 two_ok : (v w : Told) (x : ℕ × ℕ) → two_numbers_of v w ≡ Ok x → Written v x.0 × Written w x.1
 two_ok v w x h =

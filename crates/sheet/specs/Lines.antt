@@ -1,5 +1,5 @@
 -- The five forms of a line, and the change that a line asks for.
-use Rattle.std.specs.Prelude.{ℕ, cond, List, [], ◌∷◌, Some, None, Ok, Err, codes, Option, option_map, Result}
+use Rattle.std.specs.Prelude.{ℕ, cond, List, [], ◌∷◌, Ok, Err, codes, Option, option_map, Result}
 use Rattle.std.specs.Option.{ok_or}
 use Rattle.std.specs.Str.{bytes_eq}
 use Rattle.text.specs.declared.parts.Place.{Place}
@@ -62,14 +62,9 @@ from_words p (h ∷ ws) = and_then (in_line (keyword_of h)) (λ k. ok_or (form_o
 abbrev pub line_of : Told → Result ToldLine LineFault
 line_of l = from_words l.place (words l)
 
--- A number that was looked for in a word at this place; 14 if there is none.
-abbrev pub number_or : Place → Option ℕ → Result ℕ WordFault
-number_or p None = Err (NotANumber p)
-number_or p (Some n) = Ok n
-
 -- The number that a word is; 14 for any other word.
 abbrev pub number_of_word : Told → Result ℕ WordFault
-number_of_word w = number_or w.place (number_of w.text)
+number_of_word w = ok_or (number_of w.text) (NotANumber w.place)
 
 -- The numbers that two words are; the first word that is none is the fault.
 abbrev pub two_numbers_of : Told → Told → Result (ℕ × ℕ) WordFault

@@ -2,11 +2,8 @@
 
 ghost use Rattle.std.specs.Prelude.{◌≡◌, ◌≤◌, length};
 
-use rules::Change;
+use rules::{Change, MAX_CHANGES};
 use text::Place;
-
-/// The most changes that a sheet may ask for.
-pub const MAX_CHANGES: usize = 64;
 
 /// A change and the place, in the sheet, of the line that asks for it.
 #[derive(Clone, Copy, Debug, PartialEq, Eq)]

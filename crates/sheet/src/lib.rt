@@ -24,6 +24,7 @@ mod reading;
 #[cfg(test)]
 mod tests;
 
-pub use changes::{Changes, MAX_CHANGES, PlacedChange};
+pub use changes::{Changes, PlacedChange};
 pub use line::{Line, read_line};
 pub use reading::{MAX_BYTES, read_sheet};
+pub use rules::MAX_CHANGES;

@@ -6,9 +6,9 @@ ghost use Rattle.text.specs.Outcomes.{over};
 ghost use Rattle.sheet.specs.Laws.{ReadExactly};
 ghost use Rattle.sheet.specs.Sheets.{placed_of, items_of, pushed, sheet_from, sheet_of};
 
-use crate::changes::{Changes, MAX_CHANGES, PlacedChange};
+use crate::changes::{Changes, PlacedChange};
 use crate::line::read_line;
-use rules::Change;
+use rules::{Change, MAX_CHANGES};
 use sheet_faults::{LineFault, SheetFault};
 use text::{Part, Parts, Place};
 
