@@ -92,8 +92,8 @@ fn broken_records(rt: HostRuntime) {
     assert_eq!(rt; once.next_from(0), Some(5));
 }
 
-/// Where a number is added, or a union is made, what is written holds 0 in the items that are not used. A number that is
-/// too great leaves all items as they were.
+/// Where a number is added, or a union is made, what is written holds 0 in the items that are not used. A number that
+/// is too great leaves all items as they were.
 #[test]
 fn unused_items(rt: HostRuntime) {
     let once = ListRecord {
