@@ -33,21 +33,21 @@ place_of {nodes = nodes} {tail = tail} q v h s =
       sym (get_or_default_zero nodes a.0 a.1 (omega (arith, a.2, length-take tail nodes))) ∙ sym (get_or-take tail nodes a.0 a.1 low) ∙ a.3 ∙ eqb-true a.1 v a.4,
     )
 
--- what is written past the end of the queue is no part of it
+-- what is written past the end of the queue leaves the places in it as they are
+old_place : (nodes : List ℕ) (tail node p : ℕ) → p < tail → get_or (set nodes tail node) p 0 ≡ get_or nodes p 0
+old_place nodes tail node p h = get_or-set_other nodes tail p node 0 (omega arith)
+
 pub spare : {dist nodes : List ℕ} {tail : ℕ} (node : ℕ) → Queued dist nodes tail → Queued dist (set nodes tail node) tail
 spare {dist} {nodes} {tail} node q =
     record {
       small = q.small;
       fits = simp length-set q.fits;
       room = q.room;
-      inside = λ p h. rw (old p h) (q.inside p h);
-      early = λ p h. rw (old p h) (q.early p h);
+      inside = λ p h. rw (old_place nodes tail node p h) (q.inside p h);
+      early = λ p h. rw (old_place nodes tail node p h) (q.early p h);
       placed = λ v h s. rw take-set (q.placed v h s);
-      ordered = λ p r l h. rw (old p (omega arith), old r h) (q.ordered p r l h);
+      ordered = λ p r l h. rw (old_place nodes tail node p (omega arith), old_place nodes tail node r h) (q.ordered p r l h);
     }
-  where
-    old : (p : ℕ) → p < tail → get_or (set nodes tail node) p 0 ≡ get_or nodes p 0
-    old p h = get_or-set_other nodes tail p node 0 (omega arith)
 
 -- after a node joined the queue at distance d
 pub record Joined (dist nodes : List ℕ) (tail node d : ℕ) (dist' nodes' : List ℕ) : Type 0 where
@@ -58,22 +58,19 @@ pub record Joined (dist nodes : List ℕ) (tail node d : ℕ) (dist' nodes' : Li
   pub near : (p : ℕ) → p < tail + 1 → at dist' nodes' p ≤ d
   pub led : get_or dist' node 0 ≤ d
 
-module _ (dist nodes : List ℕ) (tail node d : ℕ) (q : Queued dist nodes tail) (inn : node < length dist) (new : get_or dist node 0 ≡ 65535) (low : d ≤ tail) (near : (p : ℕ) → p < tail → at dist nodes p ≤ d) where
+module _ {dist nodes : List ℕ} {tail node d : ℕ} (q : Queued dist nodes tail) (inn : node < length dist) (new : get_or dist node 0 ≡ 65535) (low : d ≤ tail) (near : (p : ℕ) → p < tail → at dist nodes p ≤ d) where
   few : unseen (set dist node d) + 1 ≡ unseen dist
   few = unseen_set dist node d inn new (omega (arith, q.room, q.small))
 
   free : tail < length dist
   free = omega (arith, q.room, few)
 
-  old_place : (p : ℕ) → p < tail → get_or (set nodes tail node) p 0 ≡ get_or nodes p 0
-  old_place p h = get_or-set_other nodes tail p node 0 (omega arith)
-
   old_node : (v : ℕ) → get_or dist v 0 ≢ 65535 → get_or (set dist node d) v 0 ≡ get_or dist v 0
   old_node v h = get_or-set_other dist node v d 0 (λ e. h (ap (λ u. get_or dist u 0) e ∙ new))
 
   old_at : (p : ℕ) → p < tail → at (set dist node d) (set nodes tail node) p ≡ at dist nodes p
   old_at p h =
-      ap (λ v. get_or (set dist node d) v 0) (old_place p h)
+      ap (λ v. get_or (set dist node d) v 0) (old_place nodes tail node p h)
       ∙ old_node (get_or nodes p 0) (omega (arith, q.early p h, free, q.small))
 
   new_place : get_or (set nodes tail node) tail 0 ≡ node
@@ -113,16 +110,16 @@ module _ (dist nodes : List ℕ) (tail node d : ℕ) (q : Queued dist nodes tail
           small = simp length-set q.small;
           fits = simp length-set q.fits;
           room = omega (arith, length-set dist node d, few, q.room);
-          inside = below_more (λ p. get_or (set nodes tail node) p 0 < length (set dist node d)) tail (λ p h. omega (arith, old_place p h, length-set dist node d, q.inside p h)) (omega (arith, new_place, length-set dist node d, inn));
+          inside = below_more (λ p. get_or (set nodes tail node) p 0 < length (set dist node d)) tail (λ p h. omega (arith, old_place nodes tail node p h, length-set dist node d, q.inside p h)) (omega (arith, new_place, length-set dist node d, inn));
           early = below_more (λ p. at (set dist node d) (set nodes tail node) p ≤ p) tail (λ p h. omega (arith, old_at p h, q.early p h)) (omega (arith, new_at, low));
           placed = new_placed;
           ordered = new_ordered;
         };
-        queued = old_place;
+        queued = old_place nodes tail node;
         seen = old_node;
         walks = λ nbr starts w ws.
             below_more (λ p. From nbr starts (get_or (set nodes tail node) p 0) (at (set dist node d) (set nodes tail node) p)) tail
-            (λ p h. subst₂ (From nbr starts) (sym (old_place p h)) (sym (old_at p h)) (ws p h))
+            (λ p h. subst₂ (From nbr starts) (sym (old_place nodes tail node p h)) (sym (old_at p h)) (ws p h))
             (subst₂ (From nbr starts) (sym new_place) (sym new_at) w);
         near = new_near;
         led = omega (arith, get_or-set_same dist node d 0 inn);

@@ -26,6 +26,8 @@ pub trait Graph {
 }
 
 /// The neighbours of a node, in the order of their places.
+// An iterator of its own, and no `(0..).map_while(..)` whose closure borrows the graph: the goals that the check states
+// for a `for` over that have a type error.
 #[derive(Drop)]
 pub(crate) struct Neighbours<'g, G> {
     graph: &'g G,

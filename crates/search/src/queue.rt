@@ -28,7 +28,8 @@ impl<'m> Queue<'m> {
         requires near { Near self.old far }
         ensures { Saw node far self.old self.new }
     {
-        // `as`, since the fields of `Queue` are proved of the node itself: with `usize::from` their proofs do not close.
+        // `as`, since the fields of `Queue` are proved of the node itself: with `usize::from` the proof of `see` does
+        // not close.
         if self.distance[node as usize] == NO_DISTANCE {
             self.nodes[self.tail] = node;
             self.distance[node as usize] = far;

@@ -1,5 +1,5 @@
 -- What is true of lists of ascending numbers, and of the records that list them. Assumes nothing.
-use Rattle.std.proofs.Common.{◌≡◌, ℕ, zero, suc, ◌+◌, ◌<◌, ◌≤◌, Bool, true, false, ◌||◌, ltb, eqb, List, [], ◌∷◌, ◌++◌, length, get_or, set, replicate, Some, refl, subst, sym, ap, ap₂, ◌∙◌, ⊎_elim, add-one, arith}
+use Rattle.std.proofs.Common.{◌≡◌, ℕ, zero, suc, ◌+◌, ◌<◌, ◌≤◌, Bool, true, false, ◌||◌, ltb, eqb, List, [], ◌∷◌, ◌++◌, length, get_or, set, replicate, Some, refl, subst, sym, ap, ap₂, ◌∙◌, ⊎_elim, add-one, add-zero, arith}
 use Rattle.std.specs.Prelude.{IsTrue, ◌↔◌, nat_eq}
 use lib.Pointwise.{pointwise}
 use Rattle.std.specs.Cmp.Lexicographic.{told_text}
@@ -88,6 +88,14 @@ rises least (x ∷ xs) a zero zero d l h = absurd (let z : ⊥ = omega arith in 
 rises least (x ∷ xs) a (suc i) zero d l h = absurd (let z : ⊥ = omega arith in z)
 rises least (x ∷ xs) a zero (suc j) d l h = let first = at_least (x + 1) xs (ascend_parts least x xs a).2 j d (omega arith) in omega arith
 rises least (x ∷ xs) a (suc i) (suc j) d l h = rises (x + 1) xs (ascend_parts least x xs a).2 i j d (omega arith) (omega arith)
+
+-- each step up is by one at least: so with i = 0, item d is at least d
+pub climb : (least : ℕ) (xs : List ℕ) → ascend_from least xs ≡ true → (i d : ℕ) → i + d < length xs → get_or xs i 0 + d ≤ get_or xs (i + d) 0
+climb least xs a i zero h = rw (add-zero i) (omega arith)
+climb least xs a i (suc d) h =
+    let before = climb least xs a i d (omega arith) in
+    let step = rises least xs a (i + d) (i + suc d) 0 (omega arith) h in
+    omega arith
 
 rises_over : (least : ℕ) (xs : List ℕ) → ((i : ℕ) → i < length xs → get_or xs i 0 < 64) → ((i : ℕ) → suc i < length xs → get_or xs i 0 < get_or xs (suc i) 0)
     → (0 < length xs → least ≤ get_or xs 0 0) → ascend_from least xs ≡ true

@@ -111,8 +111,8 @@ pub record Start (ws : List ℕ) (from s w : ℕ) : Type 0 where
   pub place : s ≡ from / 64
   pub word : w ≡ get_or ws s 0
 
-pub start_at : (ws : List ℕ) (from s w : ℕ) → length ws ≡ 4 → s ≡ from / 64 → true ≡ ltb s (length ws) → w ≡ get_or ws s w → Start ws from s w
-start_at ws from s w len place found is =
+pub start_at : {ws : List ℕ} {from s w : ℕ} → length ws ≡ 4 → s ≡ from / 64 → true ≡ ltb s (length ws) → w ≡ get_or ws s w → Start ws from s w
+start_at {ws = ws} {s = s} {w = w} len place found is =
     let within = ltb-true s (length ws) (sym found) in
     record { below = omega arith; place = place; word = get_or_read ws s w within is 0 }
 

@@ -3,7 +3,7 @@ use Rattle.std.specs.Prelude.{◌≡◌, ℕ, zero, suc, ◌+◌, ◌-◌, ◌<�
 use Rattle.std.proofs.Common.{sym, ap, ap₂, ◌∙◌, ⊎_elim, arith, length-append}
 use Rattle.std.proofs.lemmas.Bool.{false≢true, lt-ltb, ltb-true, le-ltb, le-leb, leb-true, eq-eqb, eqb-true, cases_Bool, cases_eq, and_parts, and_from, or_cases, or_left, or_right}
 use Rattle.std.proofs.lemmas.Bool.Decides.{nat_tests}
-use Rattle.std.proofs.lemmas.List.{take_at, append-nil}
+use Rattle.std.proofs.lemmas.List.{take_at, append-nil, length-replicate}
 use Rattle.std.proofs.lemmas.List.Folds.{list_any-append}
 use Rattle.sets.specs.declared.list_record.ListRecord.{ListRecord}
 use Rattle.sets.specs.Ascending.{ascend_from, among}
@@ -95,3 +95,8 @@ record_of_lem p n h =
     ap₂ (λ b xs. b && among xs n) (and_from _ _ (le-leb _ _ ns.short) (ap (ascend_from 0) are ∙ ns.ascend)) are
     ∙ ns.are n
     ∙ ap (λ b. b && p n) small
+
+pub record_of_whole : (p : ℕ → Bool) → length (record_of p).items ≡ 64
+record_of_whole p =
+    let ns = are_numbers p 64 (omega arith) in
+    omega (arith, ns.short, length-append (numbers p 64) (replicate (64 - length (numbers p 64)) 0), length-replicate {A = ℕ} (64 - length (numbers p 64)) 0)

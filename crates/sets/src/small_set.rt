@@ -15,6 +15,13 @@ pub trait SmallSet: Copy {
     /// Whether a number is a member.
     ghost has: { Self → ℕ → Bool };
 
+    /// The width, as a function.
+    final fn width() -> u16
+        ensures { result ≡ W }
+    {
+        Self::W
+    }
+
     /// A new set, which has no members.
     fn empty() -> Self
         ensures { (n : ℕ) → has result n ≡ false };

@@ -48,7 +48,7 @@ fn full<S: SmallSet>(rt: &impl Abort) {
 
 #[test]
 fn bit_rows(rt: HostRuntime) {
-    assert_eq!(rt; BitRow::W, 256);
+    assert_eq!(rt; BitRow::width(), 256);
     edges::<BitRow>(&rt, 255);
     full::<BitRow>(&rt);
     let mut words: BitRow = from_members(&[63, 64]);
@@ -59,7 +59,7 @@ fn bit_rows(rt: HostRuntime) {
 
 #[test]
 fn list_records(rt: HostRuntime) {
-    assert_eq!(rt; ListRecord::W, 64);
+    assert_eq!(rt; ListRecord::width(), 64);
     edges::<ListRecord>(&rt, 63);
     full::<ListRecord>(&rt);
 }
@@ -92,7 +92,8 @@ fn broken_records(rt: HostRuntime) {
     assert_eq!(rt; once.next_from(0), Some(5));
 }
 
-/// What is written holds 0 in the items that are not used, also where nothing is added.
+/// Where a number is added, or a union is made, what is written holds 0 in the items that are not used. A number that
+/// is too great leaves all items as they were.
 #[test]
 fn unused_items(rt: HostRuntime) {
     let once = ListRecord {

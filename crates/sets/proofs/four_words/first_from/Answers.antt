@@ -3,16 +3,10 @@ use Rattle.sets.proofs.Rows.{start_at, next_in_word, next_in_later_word, next_in
 use Rattle.sets.proofs.four_words.first_from.Goals as goal
 
 pub returns-then-rest-ne0 : goal.returns-then-rest-ne0
-returns-then-rest-ne0 c =
-    let start = start_at c.args.words.now _ _ _ c.told-words c.from-start.ensures c.in_ok-rest.ensures.lookup.0 c.in_ok-rest.ensures.lookup.1 in
-    next_in_word start (c.fits-words _) (omega arith)
+returns-then-rest-ne0 c = next_in_word (start_at c.told-words c.from-start.ensures c.in_ok-rest.ensures.lookup.0 c.in_ok-rest.ensures.lookup.1) (c.fits-words _) (omega arith)
 
 pub returns-in_err-i : goal.returns-in_err-i
-returns-in_err-i c =
-    let start = start_at c.args.words.now _ _ _ c.told-words c.from-start.ensures c.in_ok-rest.ensures.lookup.0 c.in_ok-rest.ensures.lookup.1 in
-    rw c.from_residual-in_err-i.ensures (next_in_no_word start c.told-words c.if-rest-ne0.false (sym c.first_nonzero.ensures ∙ c.in_err-i.was))
+returns-in_err-i c = rw c.from_residual-in_err-i.ensures (next_in_no_word (start_at c.told-words c.from-start.ensures c.in_ok-rest.ensures.lookup.0 c.in_ok-rest.ensures.lookup.1) c.told-words c.if-rest-ne0.false (sym c.first_nonzero.ensures ∙ c.in_err-i.was))
 
 pub returns : goal.returns
-returns c =
-    let start = start_at c.args.words.now _ _ _ c.told-words c.from-start.ensures c.in_ok-rest.ensures.lookup.0 c.in_ok-rest.ensures.lookup.1 in
-    next_in_later_word start c.in_ok-i.field-0 c.told-words c.if-rest-ne0.false (sym c.first_nonzero.ensures ∙ c.in_ok-i.was) (c.fits-words _)
+returns c = next_in_later_word (start_at c.told-words c.from-start.ensures c.in_ok-rest.ensures.lookup.0 c.in_ok-rest.ensures.lookup.1) c.in_ok-i.field-0 c.told-words c.if-rest-ne0.false (sym c.first_nonzero.ensures ∙ c.in_ok-i.was) (c.fits-words _)

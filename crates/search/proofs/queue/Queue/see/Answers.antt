@@ -15,17 +15,15 @@ invariant_of-self c = record { queued = spare c.args.node c.args.self.now.queued
 
 pub invariant_of-self-then-self-node : goal.invariant_of-self-then-self-node
 invariant_of-self-then-self-node c =
-    let q = c.args.self.now in
-    let j = joined q.distance.now q.nodes.now q.tail c.args.node c.args.far q.queued c.requires.node c.if-self-node.true c.requires.early c.requires.near in
+    let j = joined c.args.self.now.queued c.requires.node c.if-self-node.true c.requires.early c.requires.near in
     record { queued = search (rules, j.queue) }
 
 pub returns-then-self-node : goal.returns-then-self-node
 returns-then-self-node c =
-    let q = c.args.self.now in
-    let j = joined q.distance.now q.nodes.now q.tail c.args.node c.args.far q.queued c.requires.node c.if-self-node.true c.requires.early c.requires.near in
+    let j = joined c.args.self.now.queued c.requires.node c.if-self-node.true c.requires.early c.requires.near in
     record {
       grown = record {
-        memory = record { name = refl; long = length-set q.distance.now c.args.node c.args.far };
+        memory = record { name = refl; long = length-set c.args.self.now.distance.now c.args.node c.args.far };
         head = refl;
         longer = omega arith;
         queued = j.queued;
