@@ -67,6 +67,7 @@ impl fmt::Display for LineFault {
 impl Error for LineFault {}
 
 /// The stage that a word gives.
+// `sheet` reads its words in the same way. One function for both would be told the range and the fault: no fewer lines.
 fn stage(word: Part) -> Result<u16, LineFault>
     ensures { result ≡ stage_of (told word.entry) }
 {

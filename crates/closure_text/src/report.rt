@@ -21,6 +21,7 @@ fn write_faults(out: &mut String, faults: &[LineFault]) -> Result<(), AllocError
 }
 
 /// Writes the line that tells of a reached stage.
+// No `Display`, and none for the counts below: no type holds a stage with its steps, or the three counts, but here.
 fn write_stage(out: &mut String, stage: usize, steps: u16) -> Result<(), AllocError>
     ensures { OnOk result (string_bytes out.new ≡ string_bytes out.old ++ stage_line stage steps) }
 {

@@ -72,6 +72,8 @@ fn visit<G: Graph>(graph: &G, queue: &mut Queue, node: u16)
 }
 
 /// Visits every node that a walk from a start leads to.
+// That the queue has the graph's nodes is asked here and in the two functions around it: a type that says so would hold
+// the queue and the graph, be made where the memory is lent, and say no more than this clause.
 fn visit_all<G: Graph>(graph: &G, starts: &[u16], queue: &mut Queue)
     requires nodes { length queue.old.distance.now ≡ G.nodes graph.now }
     requires starting { Starting (G.nodes graph.now) starts.now }

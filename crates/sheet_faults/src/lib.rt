@@ -33,6 +33,8 @@ pub enum LineFault {
 }
 
 /// A change that the rule book declines, with the place of the line that asks for it.
+// `sheet::PlacedChange` has a place beside a change in the same way. One generic type for both would stand in another crate,
+// and `Declined` has methods of its own.
 #[derive(Clone, Copy, Debug, PartialEq, Eq)]
 pub struct Declined {
     pub fault: BookFault,
