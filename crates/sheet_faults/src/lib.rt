@@ -33,8 +33,8 @@ pub enum LineFault {
 }
 
 /// A change that the rule book declines, with the place of the line that asks for it.
-// `sheet::PlacedChange` has a place beside a change in the same way. One generic type for both would stand in another crate,
-// and `Declined` has methods of its own.
+// `sheet::PlacedChange` has a place beside a change in the same way. One generic type for both would stand in another
+// crate, and `Declined` has methods of its own.
 #[derive(Clone, Copy, Debug, PartialEq, Eq)]
 pub struct Declined {
     pub fault: BookFault,
@@ -97,8 +97,8 @@ impl Layer {
     }
 }
 
-// `WordFault`, `LineFault` and `SheetFault` give their numbers by a `match`, since a case can have a number of its own only in
-// an enum none of whose cases holds anything.
+// `WordFault`, `LineFault` and `SheetFault` give their numbers by a `match`, since a case can have a number of its own
+// only in an enum none of whose cases holds anything.
 impl WordFault {
     /// The number by which the fault is told: 12 or 14.
     pub fn number(&self) -> u8
