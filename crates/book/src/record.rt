@@ -18,8 +18,8 @@ pub(crate) struct Stage {
 /// two slots, arcs between live stages and with a label up to the number of events, and the count right. A
 /// width narrower than 256 stages is no part of the record: changes are told the width that they must keep
 /// to.
-// Contracts read a book by `rules_of`, and not by an `impl Model`: a type that is `Copy` can have one only if its fields
-// can be made from what it means, and the order of the slots is not in that.
+// Contracts read a book by `rules_of`, and not by an `impl Model`: a type that is `Copy` can have one only if its
+// fields can be made from what it means, and the order of the slots is not in that.
 #[derive(Clone, Copy)]
 pub struct Book {
     pub(crate) events: u8,

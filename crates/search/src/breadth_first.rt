@@ -29,7 +29,7 @@ impl SearchFault {
         *self as u8
     }
 
-    /// The place of the fault. Each fault is told by a number and a place, and the place is 0 where there is none to tell.
+    /// The place of the fault. Each fault is told by a number and a place, which is 0 where there is none to tell.
     pub fn place(&self) -> usize
         ensures { result ≡ fault_place self.now }
     {

@@ -109,8 +109,8 @@ impl AscendingList {
         }
     }
 
-    /// All members of both: the least of what is left of the two, again and again. What comes next depends on both lists,
-    /// so it is asked for, and is no walk over one of them.
+    /// All members of both: the least of what is left of the two, again and again. What comes next depends on both
+    /// lists, so it is asked for, and is no walk over one of them.
     pub fn union(&self, other: &AscendingList) -> AscendingList
         ensures members { (k : ℕ) → members result.record k ≡ (members self.now.record k || members other.now.record k) }
         ensures rest { RestIsZero result.record }

@@ -1,6 +1,6 @@
 //! A row of 256 bits in four words, worked on word by word: number `n` is in the row where bit `n % 64` of word
-//! `n / 64` is set. Each function has the proof of what a method of `BitRow` answers. The method only calls it, and so a
-//! wrong method is refused at its own lines.
+//! `n / 64` is set. Each function has the proof of what a method of `BitRow` answers. The method only calls it, and so
+//! a wrong method is refused at its own lines.
 
 ghost use Rattle.std.specs.Prelude.{◌≡◌, ℕ, false, not, ◌||◌, ◌==◌, ◌↔◌, IsTrue, position};
 ghost use Rattle.sets.specs.Members.{size, with_member, SameMembers, NextFrom};

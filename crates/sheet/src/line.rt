@@ -10,8 +10,8 @@ use sheet_faults::{LineFault, WordFault};
 use text::{Part, Parts, number};
 
 /// A line of the right form. It borrows its words from the sheet; whether they are number words is not yet known.
-// Its cases are those of `Change`, with words in place of numbers. One enum for both would have a type parameter in every
-// definition of the theory of changes, which knows no words.
+// Its cases are those of `Change`, with words in place of numbers. One enum for both would have a type parameter in
+// every definition of the theory of changes, which knows no words.
 #[derive(Clone, Copy)]
 pub enum Line<'a> {
     /// `stage STAGE MARK`
@@ -42,7 +42,7 @@ pub enum Line<'a> {
     },
 }
 
-/// The words that a line may begin with. An enum of its own, since such a word is known before the others are looked at.
+/// The words that a line may begin with. An enum of its own: such a word is known before the others are looked at.
 #[derive(Clone, Copy, Debug, PartialEq, Eq)]
 pub(crate) enum Keyword {
     Stage,
