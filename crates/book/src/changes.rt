@@ -58,6 +58,7 @@ impl Book {
 
     /// Makes the change, if no condition stands against it; else nothing is altered. Stages are to be
     /// below `width`, and below 256.
+    // The width is a number: a type for it would ask for more than any number.
     pub fn change(&mut self, width: u16, change: Change) -> Result<(), BookFault>
         ensures { ChangePost (min width 256) self.old change result self.new }
     {

@@ -30,6 +30,7 @@ impl Book {
     }
 
     /// The mark of a live stage. That of a stage which is not live means nothing.
+    // No `Option`: the contract is an equation with `rules_of`, whose mark is a number for every stage.
     pub fn mark_of(&self, stage: u16) -> u8
         ensures { result ≡ (rules_of self.now).mark stage }
     {

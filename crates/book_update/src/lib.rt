@@ -24,7 +24,6 @@ pub fn apply_sheet(book: &mut Book, width: u16, sheet: &[u8]) -> Result<usize, S
 }
 
 /// Makes the changes one after the other, up to the first that is declined.
-// The width goes on to `Book::change` as it came, a number: a type for a width would ask for more than any number.
 fn make_changes(book: &mut Book, width: u16, changes: &[PlacedChange]) -> Result<(), Declined>
     ensures { MatchResult result (λ _. applied (min width 256) (rules_of book.old) changes.now ≡ Ok (rules_of book.new)) (λ e. applied (min width 256) (rules_of book.old) changes.now ≡ Err e) }
 {

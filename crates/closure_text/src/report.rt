@@ -15,7 +15,7 @@ fn write_faults(out: &mut String, faults: &[LineFault]) -> Result<(), AllocError
     ensures { OnOk result (string_bytes out.new ≡ string_bytes out.old ++ flat_map fault_line faults.now) }
 {
     for fault in faults {
-        write!(out, "{fault}\n")?;
+        writeln!(out, "{fault}")?;
     }
     Ok(())
 }
@@ -25,7 +25,7 @@ fn write_faults(out: &mut String, faults: &[LineFault]) -> Result<(), AllocError
 fn write_stage(out: &mut String, stage: usize, steps: u16) -> Result<(), AllocError>
     ensures { OnOk result (string_bytes out.new ≡ string_bytes out.old ++ stage_line stage steps) }
 {
-    write!(out, "stage {stage}, silent steps {steps}\n")
+    writeln!(out, "stage {stage}, silent steps {steps}")
 }
 
 /// Writes a line for each reached stage, in ascending order.
@@ -49,9 +49,9 @@ fn write_counts(
 ) -> Result<(), AllocError>
     ensures { OnOk result (string_bytes out.new ≡ string_bytes out.old ++ count_line reached starts faults) }
 {
-    write!(
+    writeln!(
         out,
-        "stages reached {reached}, starts {starts}, lines refused {faults}\n"
+        "stages reached {reached}, starts {starts}, lines refused {faults}"
     )
 }
 

@@ -10,8 +10,8 @@ use crate::queue::Queue;
 use std::error::Error;
 use std::fmt;
 
-/// What the distance memory holds for a node that no walk reaches. The memory is a row of plain numbers: it has no
-/// room for an `Option`.
+/// What the distance memory holds for a node that no walk reaches: a number of the format. The memory is a row of plain
+/// numbers, with no room for an `Option`.
 pub const NO_DISTANCE: u16 = 65535;
 
 /// Why a search is declined: each fault with its number.

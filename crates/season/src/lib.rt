@@ -62,7 +62,7 @@ fn check_sheet(text: &mut String, book: &mut Book, sheet: &[u8]) -> Result<(), A
     ensures { OnOk result (SheetAnswered (string_bytes text.old) (rules_of book.old) sheet.now (string_bytes text.new) (rules_of book.new)) }
 {
     match apply_sheet(book, WIDTH, sheet) {
-        Ok(changes) => write!(text, "ok {changes}\n"),
-        Err(fault) => write!(text, "no {fault}\n"),
+        Ok(changes) => writeln!(text, "ok {changes}"),
+        Err(fault) => writeln!(text, "no {fault}"),
     }
 }

@@ -25,10 +25,9 @@ impl ListRecord {
         ensures test { result ≡ passes self.now }
         ensures ascends { IsTrue result ↔ Ascends self.now }
     {
-        match self.items.get(..usize::from(self.len)) {
-            Some(listed) => ascends(listed),
-            None => false,
-        }
+        self.items
+            .get(..usize::from(self.len))
+            .is_some_and(|listed| ascends(listed))
     }
 }
 

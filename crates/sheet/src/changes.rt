@@ -13,7 +13,7 @@ pub struct PlacedChange {
 }
 
 /// The changes that a sheet asks for, in the order of its lines: the first `count` of `items`.
-// Not the library's `ArrayVec`, which is not `Copy`.
+// Not the kit's `ArrayVec`: this type was promised to be `Copy`, and that one is not.
 #[derive(Clone, Copy)]
 pub struct Changes {
     pub(crate) items: [PlacedChange; MAX_CHANGES],

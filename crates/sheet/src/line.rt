@@ -10,8 +10,9 @@ use sheet_faults::{LineFault, WordFault};
 use text::{Part, Parts, number};
 
 /// A line of the right form. It borrows its words from the sheet; whether they are number words is not yet known.
-// Its cases are those of `Change`, with words in place of numbers. One enum for both would have a type parameter in
-// every definition of the theory of changes, which knows no words.
+// Its cases are those of `Change`, with words in place of numbers, and each has its words by name: no struct for an arc's
+// three words. One enum for both would have a type parameter in every definition of the theory of changes, which knows
+// no words.
 #[derive(Clone, Copy)]
 pub enum Line<'a> {
     /// `stage STAGE MARK`
