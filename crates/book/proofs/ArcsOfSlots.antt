@@ -1,11 +1,11 @@
--- The arcs that stand in slots, as a list.
-use Rattle.std.proofs.Common.{◌≡◌, ℕ, zero, suc, ◌+◌, ◌<◌, ◌≤◌, Bool, true, false, cond, ◌||◌, leb, ◌⊎◌, List, [], ◌∷◌, Some, None, Option, is_some, count_by, length, get_or, sym, refl, ap, ◌∙◌, inl, inr, arith}
+-- The arcs that stand in slots: as a list, and when each is proper.
+use Rattle.std.proofs.Common.{◌≡◌, ℕ, zero, suc, ◌+◌, ◌<◌, ◌≤◌, Bool, true, false, cond, ◌||◌, eqb, leb, ◌⊎◌, List, [], ◌∷◌, Some, None, Option, is_some, count_by, length, get_or, sym, refl, ap, ◌∙◌, inl, inr, arith}
 use Rattle.std.specs.List.{list_any, filter_map}
-use Rattle.std.proofs.lemmas.Bool.{false≢true, ltb-true, lt-ltb, and_parts, or_cases, cases_Bool}
+use Rattle.std.proofs.lemmas.Bool.{false≢true, ltb-true, lt-ltb, eqb-false, and_parts, and_from, or_cases, or_parts, cases_Bool}
 use Rattle.std.proofs.lemmas.List.Sums.{sum_by-cons}
 use Rattle.rules.specs.declared.change.Arc.{Arc}
 use Rattle.rules.specs.Counts.{Among, NoRepeat, Counts}
-use Rattle.book.specs.Slots.{here, arcs_in, tally, Once, proper}
+use Rattle.book.specs.Slots.{here, touches, arcs_in, joined, tally, Once, proper, Fit}
 use Rattle.book.proofs.SlotWrites.{any_count, bit_one, bit_none, same_arc, arc_same}
 
 -- a slot at which a test passes that no free slot passes
@@ -33,6 +33,38 @@ proper_parts live E a h =
     let p = and_parts (live a.from) _ h in
     let q = and_parts (live a.to) (leb a.label E) p.1 in
     record { from_live = p.0; to_live = q.0; label_low = q.1 }
+
+pub proper_from : (live : ℕ → Bool) (E : ℕ) (s : Option Arc) → ((a : Arc) → s ≡ Some a → Proper live E a) → proper live E s ≡ true
+proper_from live E None f = refl
+proper_from live E (Some a) f =
+    let p = f a refl in
+    and_from (live a.from) _ p.from_live (and_from (live a.to) (leb a.label E) p.to_live p.label_low)
+
+-- more stages are live
+pub fits_more : (live more : ℕ → Bool) (E : ℕ) (ss : List (Option Arc)) → ((k : ℕ) → live k ≡ true → more k ≡ true) → Fit live E ss → Fit more E ss
+fits_more live more E ss g f k =
+    proper_from more E (get_or ss k None) (λ a e.
+    let p = proper_parts live E a (sym (ap (proper live E) e) ∙ f k) in
+    record { from_live = g a.from p.from_live; to_live = g a.to p.to_live; label_low = p.label_low })
+
+-- a stage without arcs is live no more
+pub fits_fewer : (live fewer : ℕ → Bool) (n E : ℕ) (ss : List (Option Arc)) → joined ss n ≡ false → ((k : ℕ) → (k ≡ n → ⊥) → live k ≡ true → fewer k ≡ true) →
+    Fit live E ss → Fit fewer E ss
+fits_fewer live fewer n E ss j g f k =
+    proper_from fewer E (get_or ss k None) (λ a e.
+    let p = proper_parts live E a (sym (ap (proper live E) e) ∙ f k) in
+    let t : (eqb n a.from || eqb n a.to) ≡ false = sym (ap (touches n) e) ∙ untouched ss n k j in
+    let u = or_parts (eqb n a.from) (eqb n a.to) t in
+    record {
+      from_live = g a.from (λ q. eqb-false n a.from u.0 (sym q)) p.from_live;
+      to_live = g a.to (λ q. eqb-false n a.to u.1 (sym q)) p.to_live;
+      label_low = p.label_low;
+    })
+  where
+    untouched : (ss : List (Option Arc)) (n k : ℕ) → joined ss n ≡ false → touches n (get_or ss k None) ≡ false
+    untouched [] n k h = refl
+    untouched (s ∷ ss) n zero h = (or_parts (touches n s) (joined ss n) h).0
+    untouched (s ∷ ss) n (suc k) h = untouched ss n k (or_parts (touches n s) (joined ss n) h).1
 
 pub itself : (x : Arc) → here x.from x.label x.to (Some x) ≡ true
 itself x = arc_same x.from x.label x.to x.from x.label x.to refl refl refl

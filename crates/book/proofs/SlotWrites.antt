@@ -1,7 +1,8 @@
 -- Slots one by one: what one write does to the arcs that stand, to their number and to what is true of all.
 use Rattle.std.proofs.Common.{◌≡◌, ℕ, ◌+◌, ◌<◌, ◌≤◌, Bool, true, false, cond, not, ◌&&◌, ◌||◌, eqb, ltb, ◌⊎◌, List, [], ◌∷◌, Some, None, Option, is_some, count_by, position, length, get_or, set, sym, refl, ap, ◌∙◌, inl, inr, arith, get_or-set_same, get_or-set_other}
 use Rattle.std.specs.List.{list_any, position_from}
-use Rattle.std.proofs.lemmas.Bool.{false≢true, not-false, eqb-true, eq-eqb, ltb-false, lt-ltb, le-ltb, and_parts, and_from, or_parts, cases_eq}
+use Rattle.std.proofs.lemmas.Bool.{false≢true, not-false, eqb-true, eq-eqb, ltb-false, lt-ltb, le-ltb, and_parts, and_from, or_parts, cases_eq, cases_lt}
+use Rattle.std.proofs.lemmas.List.{set_past}
 use Rattle.std.proofs.lemmas.List.Sums.{sum_by-cons, sum_by-set}
 use Rattle.std.proofs.lemmas.List.Quantifiers.{position-Some}
 use Rattle.std.proofs.lemmas.Iterator.Adapters.{position_from-zero}
@@ -80,16 +81,20 @@ once_adds ss i x lt h d o m e n = go (here m e n (Some x)) refl
     go true y = omega (arith, w, bit_one _ y, none (same_arc m e n x.from x.label x.to y))
     go false y = omega (arith, w, bit_none _ y, o m e n)
 
-pub once_cuts : (ss : List (Option Arc)) (i : ℕ) → i < length ss → Once ss → Once (set ss i None)
-once_cuts ss i lt o m e n = omega (arith, sum_by-set (λ s. cond (here m e n s) 1 0) ss i None None lt, o m e n)
-
-pub fit_set : (live : ℕ → Bool) (E : ℕ) (ss : List (Option Arc)) (i : ℕ) (s : Option Arc) → i < length ss → Fit live E ss → proper live E s ≡ true →
-    Fit live E (set ss i s)
-fit_set live E ss i s lt f p k = go (cases_eq k i)
+pub once_cuts : (ss : List (Option Arc)) (i : ℕ) → Once ss → Once (set ss i None)
+once_cuts ss i o m e n = go (cases_lt i (length ss))
   where
-    go : (k ≡ i) ⊎ (k ≡ i → ⊥) → proper live E (get_or (set ss i s) k None) ≡ true
-    go (inl e) = ap (λ (j : ℕ). proper live E (get_or (set ss i s) j None)) e ∙ ap (proper live E) (get_or-set_same ss i s None lt) ∙ p
-    go (inr d) = ap (proper live E) (get_or-set_other ss i k s None d) ∙ f k
+    go : (i < length ss) ⊎ (length ss ≤ i) → count_by (here m e n) (set ss i None) ≤ 1
+    go (inl lt) = omega (arith, sum_by-set (λ s. cond (here m e n s) 1 0) ss i None None lt, o m e n)
+    go (inr past) = omega (arith, ap (count_by (here m e n)) (set_past ss i None past), o m e n)
+
+pub fit_set : (live : ℕ → Bool) (E : ℕ) (ss : List (Option Arc)) (i : ℕ) (s : Option Arc) → Fit live E ss → proper live E s ≡ true → Fit live E (set ss i s)
+fit_set live E ss i s f p k = go (cases_eq k i) (cases_lt i (length ss))
+  where
+    go : (k ≡ i) ⊎ (k ≡ i → ⊥) → (i < length ss) ⊎ (length ss ≤ i) → proper live E (get_or (set ss i s) k None) ≡ true
+    go (inl e) (inl lt) = ap (λ (j : ℕ). proper live E (get_or (set ss i s) j None)) e ∙ ap (proper live E) (get_or-set_same ss i s None lt) ∙ p
+    go (inl e) (inr past) = ap (λ (xs : List (Option Arc)). proper live E (get_or xs k None)) (set_past ss i s past) ∙ f k
+    go (inr d) w = ap (proper live E) (get_or-set_other ss i k s None d) ∙ f k
 
 -- where a slot's content is found, and what is so if it is not
 same_is : (x s : Option Arc) → same_slot x s ≡ true → s ≡ x

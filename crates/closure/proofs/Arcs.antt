@@ -49,14 +49,15 @@ arc_ends rows u v h =
     let ends = and_parts (ltb u 256) (ltb v 256) (and_parts (ltb u 256 && ltb v 256) (in_row_at rows u v) h).0 in
     (ltb-true u 256 ends.0, ltb-true v 256 ends.1)
 
--- no row holds a stage
-pub arc_none : (row : BitRow) → ((v : ℕ) → members row v ≡ false) → (u v : ℕ) → arc_in (replicate 256 row) u v ≡ false
-arc_none row empty u v = ⊎_elim
-    (λ (l : u < 256). ⊎_elim
-    (λ (k : v < 256). arc_in_lem (replicate 256 row) u v row (length-replicate 256 row) l k ∙ ap (λ (x : BitRow). members x v) (get_or-replicate 256 u row row l) ∙ empty v)
-    (λ (k : 256 ≤ v). arc_beyond (replicate 256 row) u v k)
-    (cases_lt v 256))
-    (λ (l : 256 ≤ u). arc_out (replicate 256 row) u v l)
+-- the same row for every stage
+pub arc_repeated : (row : BitRow) (u v : ℕ) → arc_in (replicate 256 row) u v ≡ ((ltb u 256 && ltb v 256) && members row v)
+unfolding arc_in
+arc_repeated row u v = ⊎_elim
+    (λ (l : u < 256).
+    let long = length-replicate 256 row in
+    ap (λ (p : ℕ → Bool). (ltb u 256 && ltb v 256) && p v)
+    (get_or-map members (replicate 256 row) u row (λ _. false) (omega arith) ∙ ap members (get_or-replicate 256 u row row l)))
+    (λ (l : 256 ≤ u). let e = le-ltb u 256 l in rw e)
     (cases_lt u 256)
 
 -- rows after one is written

@@ -1,6 +1,6 @@
 //! Silent arcs among stages, as a graph.
 
-ghost use Rattle.std.specs.Prelude.{◌≡◌, ℕ, ◌<◌, ◌≤◌, false, not, ◌&&◌, MatchOption, MatchResult, nat_lt};
+ghost use Rattle.std.specs.Prelude.{◌≡◌, ℕ, ◌<◌, ◌≤◌, false, not, ◌&&◌, None, MatchOption, MatchResult, nat_lt, slice_index, slice_index_or};
 ghost use Rattle.closure.specs.Neighbours.{leads, neighbours_in, lawful_in};
 ghost use Rattle.closure.specs.Silent.{arc_in, has_arc, with_arc, FewestArcs, reached_in};
 ghost use Rattle.sets.specs.BitRows.{members};
@@ -21,6 +21,13 @@ pub struct SilentArcs {
     rows: [BitRow; 256],
 }
 
+/// The same row for every stage.
+fn repeated(row: BitRow) -> [BitRow; 256]
+    ensures { (u v : ℕ) → arc_in result u v ≡ ((nat_lt u 256 && nat_lt v 256) && members row v) }
+{
+    [row; 256]
+}
+
 // An arc is given by its two ends, and each is used alone: one picks the row, the other is looked up there.
 impl SilentArcs {
     /// No arcs.
@@ -28,7 +35,7 @@ impl SilentArcs {
         ensures { (u v : ℕ) → has_arc result u v ≡ false }
     {
         SilentArcs {
-            rows: [BitRow::empty(); 256],
+            rows: repeated(BitRow::empty()),
         }
     }
 
@@ -68,8 +75,19 @@ impl SilentArcs {
         let mut distance = [NO_DISTANCE; 256];
         let mut queue = [0; 256];
         search(self, starts, &mut distance, &mut queue)?;
-        Ok(distance.map(steps))
+        Ok(all_steps(&distance))
     }
+}
+
+/// The steps to each stage that the distance memory of a search tells.
+fn all_steps(distance: &[u16; 256]) -> [Option<u16>; 256]
+    ensures { (v : ℕ) → v < 256 → MatchOption (slice_index_or result v None) (slice_index distance.now v ≡ 65535) (λ d. (d < 65535) × (d ≡ slice_index distance.now v)) }
+{
+    let mut all = [None; 256];
+    for (stage, distance) in distance.iter().enumerate() {
+        all[stage] = steps(*distance);
+    }
+    all
 }
 
 /// The steps to a stage that the distance memory of a search tells.

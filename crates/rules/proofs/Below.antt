@@ -25,11 +25,36 @@ some_any (suc n) p k lt h = go (cases_eq k n) (λ l. some_any n p k l h)
     go (inl e) r = or_left (p n) (any_below n p) (sym (ap p e) ∙ h)
     go (inr d) r = or_right (p n) (any_below n p) (r (omega arith))
 
+-- a sum of sums
+pub sum_add : (n : ℕ) (f g : ℕ → ℕ) → sum_below n (λ k. f k + g k) ≡ sum_below n f + sum_below n g
+unfolding sum_below
+sum_add zero f g = refl
+sum_add (suc n) f g = let r = sum_add n f g in omega arith
+
+-- a sum of equal numbers
+pub sum_same : (n : ℕ) (f g : ℕ → ℕ) → ((k : ℕ) → f k ≡ g k) → sum_below n f ≡ sum_below n g
+sum_same n f g h = ap (sum_below n) (λ i k. h k i)
+
 -- a sum of zeros
 pub sum_zero : (n : ℕ) (f : ℕ → ℕ) → ((k : ℕ) → f k ≡ 0) → sum_below n f ≡ 0
 unfolding sum_below
 sum_zero zero f h = refl
 sum_zero (suc n) f h = let r = sum_zero n f h in let q = h n in omega arith
+
+pub sum_none : (n : ℕ) (f : ℕ → ℕ) → ((k : ℕ) → k < n → f k ≡ 0) → sum_below n f ≡ 0
+unfolding sum_below
+sum_none zero f h = refl
+sum_none (suc n) f h = let r = sum_none n f (λ k lt. h k (omega arith)) in let q = h n (omega arith) in omega arith
+
+-- a sum of zeros and a single 1
+pub sum_one : (n : ℕ) (f : ℕ → ℕ) (j : ℕ) → j < n → f j ≡ 1 → ((k : ℕ) → (k ≡ j → ⊥) → f k ≡ 0) → sum_below n f ≡ 1
+unfolding sum_below
+sum_one zero f j lt h z = absurd (omega arith)
+sum_one (suc n) f j lt h z = go (cases_eq j n) (λ l. sum_one n f j l h z)
+  where
+    go : (j ≡ n) ⊎ (j ≡ n → ⊥) → (j < n → sum_below n f ≡ 1) → f n + sum_below n f ≡ 1
+    go (inl e) g = let r = sum_none n f (λ (k : ℕ) (l : k < n). z k (omega arith)) in let q : f n ≡ 1 = sym (ap f e) ∙ h in omega arith
+    go (inr d) g = let r = g (omega arith) in let q = z n (λ x. d (sym x)) in omega arith
 
 -- a sum of smaller numbers, one of them smaller for sure
 pub sum_le : (n : ℕ) (f g : ℕ → ℕ) → ((k : ℕ) → f k ≤ g k) → sum_below n f ≤ sum_below n g

@@ -26,13 +26,13 @@ pub record Fine (W : ℕ) (b : Rules) (m e n : ℕ) : Type 0 where
   pub inside : (not (ltb m W) || (ltb b.events e || not (ltb n W))) ≡ false
   pub alive : (not (b.live m) || not (b.live n)) ≡ false
 
-from_live : (W : ℕ) (b : Rules) (m e n : ℕ) → Fine W b m e n → b.live m ≡ true
+pub from_live : (W : ℕ) (b : Rules) (m e n : ℕ) → Fine W b m e n → b.live m ≡ true
 from_live W b m e n f = not-false (b.live m) (or_parts (not (b.live m)) (not (b.live n)) f.alive).0
 
-to_live : (W : ℕ) (b : Rules) (m e n : ℕ) → Fine W b m e n → b.live n ≡ true
+pub to_live : (W : ℕ) (b : Rules) (m e n : ℕ) → Fine W b m e n → b.live n ≡ true
 to_live W b m e n f = not-false (b.live n) (or_parts (not (b.live m)) (not (b.live n)) f.alive).1
 
-label_low : (W : ℕ) (b : Rules) (m e n : ℕ) → Fine W b m e n → e ≤ b.events
+pub label_low : (W : ℕ) (b : Rules) (m e n : ℕ) → Fine W b m e n → e ≤ b.events
 label_low W b m e n f =
     ltb-false b.events e (or_parts (ltb b.events e) (not (ltb n W)) (or_parts (not (ltb m W)) (ltb b.events e || not (ltb n W)) f.inside).1).0
 

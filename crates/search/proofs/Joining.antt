@@ -1,25 +1,26 @@
--- What a node that joins the queue leaves true. Assumes nothing.
-use Rattle.std.proofs.Common.{◌≡◌, ℕ, ◌+◌, ◌<◌, ◌≤◌, ◌≢◌, true, eqb, List, length, take, get_or, set, replicate, sym, ap, ◌∙◌, subst, subst₂, ⊎_elim, arith, below_more}
+-- What a node that is seen leaves true. Assumes nothing.
+use Rattle.std.proofs.Common.{◌≡◌, ℕ, ◌+◌, ◌<◌, ◌≤◌, ◌≢◌, true, eqb, List, length, take, get_or, set, sym, refl, ap, ◌∙◌, subst, subst₂, inl, inr, ⊎_elim, arith, below_more}
+use mathlib.Core.Path.{subst₃}
 use Rattle.std.specs.List.{list_any}
-use Rattle.std.proofs.lemmas.List.{get_or-set_same, get_or-set_other, get_or-take, get_or-replicate, length-replicate, length-set, length-take, take-set}
+use Rattle.std.proofs.lemmas.List.{get_or-set_same, get_or-set_other, get_or-take, length-set, length-take, take-set}
 use Rattle.std.proofs.lemmas.List.Folds.{Any-from_list_any, list_any_more}
 use Rattle.std.proofs.lemmas.Bool.{cases_eq, eq-eqb, eqb-true}
 use Rattle.std.proofs.lemmas.Bool.Decides.{nat_tests}
 use Rattle.std.proofs.lemmas.Grind.{get_or_default_zero}
 use Rattle.search.specs.Walks.{From}
-use Rattle.search.specs.Queue.{Queued, unseen, at}
+use Rattle.search.specs.Queue.{Queued, Joined, unseen, at}
 use Rattle.search.proofs.Unseen.{unseen_all, unseen_set}
 
 -- before any node is seen
-pub none_queued : (n : ℕ) (nodes : List ℕ) → n ≤ 4096 → n ≤ length nodes → Queued (replicate n 65535) nodes 0
-none_queued n nodes small fits =
+pub none_queued : (dist nodes : List ℕ) → length dist ≤ 4096 → length dist ≤ length nodes → ((v : ℕ) → v < length dist → get_or dist v 0 ≡ 65535) → Queued dist nodes 0
+none_queued dist nodes small fits clear =
     record {
-      small = simp length-replicate small;
-      fits = simp length-replicate fits;
-      room = omega (arith, length-replicate {A = ℕ} n 65535, unseen_all n);
+      small = small;
+      fits = fits;
+      room = omega (arith, unseen_all dist clear);
       inside = λ p h. absurd (omega arith);
       early = λ p h. absurd (omega arith);
-      placed = λ v h s. absurd (s (get_or-replicate n v 65535 0 (omega (arith, length-replicate {A = ℕ} n 65535))));
+      placed = λ v h s. absurd (s (clear v h));
       ordered = λ p r l h. absurd (omega arith);
     }
 
@@ -37,25 +38,15 @@ place_of {nodes = nodes} {tail = tail} q v h s =
 old_place : (nodes : List ℕ) (tail node p : ℕ) → p < tail → get_or (set nodes tail node) p 0 ≡ get_or nodes p 0
 old_place nodes tail node p h = get_or-set_other nodes tail p node 0 (omega arith)
 
-pub spare : {dist nodes : List ℕ} {tail : ℕ} (node : ℕ) → Queued dist nodes tail → Queued dist (set nodes tail node) tail
-spare {dist} {nodes} {tail} node q =
-    record {
-      small = q.small;
-      fits = simp length-set q.fits;
-      room = q.room;
-      inside = λ p h. rw (old_place nodes tail node p h) (q.inside p h);
-      early = λ p h. rw (old_place nodes tail node p h) (q.early p h);
-      placed = λ v h s. rw take-set (q.placed v h s);
-      ordered = λ p r l h. rw (old_place nodes tail node p (omega arith), old_place nodes tail node r h) (q.ordered p r l h);
-    }
-
--- after a node joined the queue at distance d
-pub record Joined (dist nodes : List ℕ) (tail node d : ℕ) (dist' nodes' : List ℕ) : Type 0 where
-  pub queue : Queued dist' nodes' (tail + 1)
+-- after a node was seen at distance d
+pub record After (node d : ℕ) (dist nodes : List ℕ) (tail : ℕ) (dist' nodes' : List ℕ) (tail' : ℕ) : Type 0 where
+  pub queue : Queued dist' nodes' tail'
+  pub long : length dist' ≡ length dist
+  pub longer : tail ≤ tail'
   pub queued : (p : ℕ) → p < tail → get_or nodes' p 0 ≡ get_or nodes p 0
   pub seen : (v : ℕ) → get_or dist v 0 ≢ 65535 → get_or dist' v 0 ≡ get_or dist v 0
-  pub walks : (nbr : ℕ → List ℕ) (starts : List ℕ) → From nbr starts node d → ((p : ℕ) → p < tail → From nbr starts (get_or nodes p 0) (at dist nodes p)) → (p : ℕ) → p < tail + 1 → From nbr starts (get_or nodes' p 0) (at dist' nodes' p)
-  pub near : (p : ℕ) → p < tail + 1 → at dist' nodes' p ≤ d
+  pub walks : (nbr : ℕ → List ℕ) (starts : List ℕ) → From nbr starts node d → ((p : ℕ) → p < tail → From nbr starts (get_or nodes p 0) (at dist nodes p)) → (p : ℕ) → p < tail' → From nbr starts (get_or nodes' p 0) (at dist' nodes' p)
+  pub near : (p : ℕ) → p < tail' → at dist' nodes' p ≤ d
   pub led : get_or dist' node 0 ≤ d
 
 module _ {dist nodes : List ℕ} {tail node d : ℕ} (q : Queued dist nodes tail) (inn : node < length dist) (new : get_or dist node 0 ≡ 65535) (low : d ≤ tail) (near : (p : ℕ) → p < tail → at dist nodes p ≤ d) where
@@ -103,8 +94,8 @@ module _ {dist nodes : List ℕ} {tail node d : ℕ} (q : Queued dist nodes tail
       omega (arith, old_at r below, old_at p (omega arith), q.ordered p r l below))
       (cases_eq r tail)
 
-  pub joined : Joined dist nodes tail node d (set dist node d) (set nodes tail node)
-  joined =
+  pushed : After node d dist nodes tail (set dist node d) (set nodes tail node) (tail + 1)
+  pushed =
       record {
         queue = record {
           small = simp length-set q.small;
@@ -115,6 +106,8 @@ module _ {dist nodes : List ℕ} {tail node d : ℕ} (q : Queued dist nodes tail
           placed = new_placed;
           ordered = new_ordered;
         };
+        long = length-set dist node d;
+        longer = omega arith;
         queued = old_place nodes tail node;
         seen = old_node;
         walks = λ nbr starts w ws.
@@ -124,3 +117,21 @@ module _ {dist nodes : List ℕ} {tail node d : ℕ} (q : Queued dist nodes tail
         near = new_near;
         led = omega (arith, get_or-set_same dist node d 0 inn);
       }
+
+module _ {dist nodes : List ℕ} {tail node d : ℕ} (q : Queued dist nodes tail) (inn : node < length dist) (near : (p : ℕ) → p < tail → at dist nodes p ≤ d) where
+  was_seen : get_or dist node 0 ≢ 65535 → After node d dist nodes tail dist nodes tail
+  was_seen s =
+      record {
+        queue = q;
+        long = refl;
+        longer = omega arith;
+        queued = λ p h. refl;
+        seen = λ v h. refl;
+        walks = λ nbr starts w ws. ws;
+        near = near;
+        led = let t = place_of q node inn s in subst (λ v. get_or dist v 0 ≤ d) t.2 (near t.0 t.1);
+      }
+
+  pub seen : d ≤ tail → {dist' nodes' : List ℕ} {tail' : ℕ} → Joined dist nodes tail node d dist' nodes' tail' → After node d dist nodes tail dist' nodes' tail'
+  seen low (inl h) = subst₃ (After node d dist nodes tail) (sym h.1) (sym h.2) (sym h.3) (was_seen h.0)
+  seen low (inr h) = subst₃ (After node d dist nodes tail) (sym h.1) (sym h.2) (sym h.3) (pushed q inn h.0 low near)

@@ -1,14 +1,14 @@
 -- What the steps of a search leave true. Assumes nothing.
-use Rattle.std.proofs.Common.{◌≡◌, ℕ, ◌+◌, ◌<◌, ◌≤◌, ◌≢◌, List, length, get_or, Some, sym, refl, ap, ◌∙◌, subst, subst₂, add-one, arith, below_more}
+use Rattle.std.proofs.Common.{◌≡◌, ℕ, ◌+◌, ◌<◌, ◌≤◌, List, length, get_or, Some, sym, refl, ap, ◌∙◌, subst, subst₂, add-one, arith, below_more}
 use Rattle.search.specs.declared.queue.Queue.{Queue}
 use Rattle.search.specs.Walks.{From, stay, step}
 use Rattle.search.specs.Visits.{node_at, distance_at, Walked, Near, Led, SameMemory, Grown, Saw, SawFirst, Popped}
-use Rattle.search.proofs.Joining.{place_of}
+use Rattle.search.proofs.Joining.{After}
 
-grown_none : (q : Queue) → Grown q q
+pub grown_none : (q : Queue) → Grown q q
 grown_none q = record { memory = record { name = refl; long = refl }; head = refl; longer = omega arith; queued = λ p h. refl; seen = λ v h. refl }
 
-grown_trans : {a b c : Queue} → Grown a b → Grown b c → Grown a c
+pub grown_trans : {a b c : Queue} → Grown a b → Grown b c → Grown a c
 grown_trans g h =
     record {
       memory = record { name = h.memory.name ∙ g.memory.name; long = h.memory.long ∙ g.memory.long };
@@ -19,19 +19,20 @@ grown_trans g h =
     }
 
 -- what is no further than d stays so
-grown_led : {q q' : Queue} (i : ℕ) (nodes : List ℕ) (d : ℕ) → d < 65535 → Grown q q' → Led i nodes d q → Led i nodes d q'
+pub grown_led : {q q' : Queue} (i : ℕ) (nodes : List ℕ) (d : ℕ) → d < 65535 → Grown q q' → Led i nodes d q → Led i nodes d q'
 grown_led {q} i nodes d small g h j l =
     let a : get_or q.distance.now (get_or nodes j 0) 0 ≤ d = h j l in
     omega (arith, g.seen (get_or nodes j 0) (omega arith))
 
--- a node that was seen before
-pub saw_again : (q : Queue) (node d : ℕ) → node < length q.distance.now → Near q d → get_or q.distance.now node 0 ≢ 65535 → Saw node d q q
-saw_again q node d inn near s =
+-- a node is seen
+pub saw : {q q' : Queue} {node d : ℕ} → After node d q.distance.now q.nodes.now q.tail q'.distance.now q'.nodes.now q'.tail
+    → q'.head ≡ q.head → q'.distance.ghost_name ≡ q.distance.ghost_name → Saw node d q q'
+saw a head name =
     record {
-      grown = grown_none q;
-      walks = λ nbr starts w ws. ws;
-      near = near;
-      led = let t = place_of q.queued node inn s in subst (λ v. get_or q.distance.now v 0 ≤ d) t.2 (near t.0 t.1);
+      grown = record { memory = record { name = name; long = a.long }; head = head; longer = a.longer; queued = a.queued; seen = a.seen };
+      walks = a.walks;
+      near = a.near;
+      led = a.led;
     }
 
 pub saw_more : {q q₁ q₂ : Queue} (i : ℕ) (nodes : List ℕ) (d : ℕ) → d < 65535 → i < length nodes → SawFirst i nodes d q q₁ → Saw (get_or nodes i 0) d q₁ q₂ → SawFirst (i + 1) nodes d q q₂
@@ -44,7 +45,7 @@ saw_more {q₂ = q₂} i nodes d few h w s =
     }
 
 -- one arc more
-from_step : (nbr : ℕ → List ℕ) (starts : List ℕ) (u k i : ℕ) → i < length (nbr u) → From nbr starts u k → From nbr starts (get_or (nbr u) i 0) (k + 1)
+pub from_step : (nbr : ℕ → List ℕ) (starts : List ℕ) (u k i : ℕ) → i < length (nbr u) → From nbr starts u k → From nbr starts (get_or (nbr u) i 0) (k + 1)
 from_step nbr starts u k i h w = rw add-one (w.0, w.1, step w.2 i h refl)
 
 -- a distance in the queue is far below 65535
@@ -53,6 +54,7 @@ few q p h = omega (arith, q.queued.early p h, q.queued.room, q.queued.small)
 
 -- the nodes before the head of the queue are visited
 pub record Going (nbr : ℕ → List ℕ) (starts : List ℕ) (q : Queue) : Type 0 where
+  pub upto : q.head ≤ q.tail
   pub walks : Walked nbr starts q
   pub near : q.head < q.tail → Near q (distance_at q q.head + 1)
   pub started : Led (length starts) starts 0 q
@@ -62,6 +64,7 @@ pub record Going (nbr : ℕ → List ℕ) (starts : List ℕ) (q : Queue) : Type
 pub going_none : (nbr : ℕ → List ℕ) (starts : List ℕ) {q q' : Queue} → q.head ≡ 0 → q.tail ≡ 0 → SawFirst (length starts) starts 0 q q' → Going nbr starts q'
 going_none nbr starts unvisited empty w =
     record {
+      upto = omega (arith, w.grown.head);
       walks = w.walks nbr starts (λ j h. (j, h, stay refl)) (λ p h. absurd (omega arith));
       near = λ h p l. omega (arith, w.near p l);
       started = w.led;
@@ -78,6 +81,7 @@ module _ {nbr : ℕ → List ℕ} {starts : List ℕ} {q q₁ : Queue} {node : �
   pub going_more : {q₂ : Queue} → SawFirst (length (nbr node)) (nbr node) (get_or q₁.distance.now node 0 + 1) q₁ q₂ → Going nbr starts q₂
   going_more {q₂} visited =
       record {
+        upto = omega (arith, w.grown.head, w.grown.longer, popped.0);
         walks = w.walks nbr starts (λ j h. from_step nbr starts (node_at q q.head) (distance_at q q.head) j h (g.walks q.head popped.0)) g.walks;
         near = λ h p l. omega (arith, w.near p l, same q.head popped.0, w.grown.head, q₂.queued.ordered q.head q₂.head (omega (arith, w.grown.head)) h);
         started = grown_led (length starts) starts 0 (omega arith) w.grown g.started;

@@ -1,7 +1,7 @@
 //! The queue of a search.
 
-ghost use Rattle.std.specs.Prelude.{◌<◌, ◌≤◌, length};
-ghost use Rattle.search.specs.Queue.{Queued};
+ghost use Rattle.std.specs.Prelude.{◌≡◌, ◌<◌, ◌≤◌, length, slice_index};
+ghost use Rattle.search.specs.Queue.{Queued, Joined};
 
 use crate::breadth_first::NO_DISTANCE;
 
@@ -18,23 +18,33 @@ pub(crate) struct Queue<'m> {
     ghost queued: { Queued distance.now nodes.now tail },
 }
 
+/// Sees a node: unless it was seen before, it gets its distance and a place at the end of the queue. Answers the new
+/// end of the queue.
+fn see(distance: &mut [u16], nodes: &mut [u16], tail: usize, node: u16, far: u16) -> usize
+    requires node { node < length distance.old }
+    requires queued { Queued distance.old nodes.old tail }
+    ensures { Joined distance.old nodes.old tail node far distance.new nodes.new result }
+{
+    if distance[usize::from(node)] == NO_DISTANCE {
+        distance[usize::from(node)] = far;
+        nodes[tail] = node;
+        tail + 1
+    } else {
+        tail
+    }
+}
+
 impl<'m> Queue<'m> {
     ghost use Rattle.search.specs.Visits.{Near, Saw, Popped};
 
-    /// Sees a node: unless it was seen before, it gets its distance and a place at the end of the queue.
+    /// Sees a node: unless it was seen before, it joins the queue.
     pub(crate) fn see(&mut self, node: u16, far: u16)
         requires node { node < length self.old.distance.now }
         requires early { far ≤ self.old.tail }
         requires near { Near self.old far }
         ensures { Saw node far self.old self.new }
     {
-        // `as`, since the fields of `Queue` are proved of the node itself: with `usize::from` the proof of `see` does
-        // not close.
-        if self.distance[node as usize] == NO_DISTANCE {
-            self.nodes[self.tail] = node;
-            self.distance[node as usize] = far;
-            self.tail += 1;
-        }
+        self.tail = see(self.distance, self.nodes, self.tail, node, far);
     }
 
     /// The next node to visit.

@@ -26,7 +26,7 @@ unfolding size
 size_add a zero p = rw (add-zero a) (omega arith)
 size_add a (suc b) p = rw add-suc (let rest = size_add a b p in omega arith)
 
-size_first : (n : ℕ) (p : ℕ → Bool) → size (suc n) p ≡ one (p 0) + size n (λ k. p (suc k))
+pub size_first : (n : ℕ) (p : ℕ → Bool) → size (suc n) p ≡ one (p 0) + size n (λ k. p (suc k))
 unfolding size
 size_first zero p = omega arith
 size_first (suc n) p = let rest = size_first n p in omega arith

@@ -1,9 +1,9 @@
 -- What is true of lists of ascending numbers, and of the records that list them. Assumes nothing.
-use Rattle.std.proofs.Common.{◌≡◌, ℕ, zero, suc, ◌+◌, ◌<◌, ◌≤◌, Bool, true, false, ◌||◌, ltb, eqb, List, [], ◌∷◌, ◌++◌, length, get_or, set, replicate, Some, refl, subst, sym, ap, ap₂, ◌∙◌, ⊎_elim, add-one, add-zero, arith}
+use Rattle.std.proofs.Common.{◌≡◌, ℕ, zero, suc, ◌+◌, ◌-◌, ◌<◌, ◌≤◌, Bool, true, false, ◌||◌, ltb, eqb, List, [], ◌∷◌, ◌++◌, length, get_or, set, replicate, take, Some, refl, subst, sym, ap, ap₂, ◌∙◌, ⊎_elim, add-one, add-zero, arith}
 use Rattle.std.specs.Prelude.{IsTrue, ◌↔◌, nat_eq}
 use lib.Pointwise.{pointwise}
 use Rattle.std.specs.Cmp.Lexicographic.{told_text}
-use Rattle.std.specs.List.{AllWithin, IsAllAdjacentAnswer}
+use Rattle.std.specs.List.{IsAllAdjacentAnswer}
 use Rattle.std.specs.List.Sorted.{IsPartitionedBy, IsPartitionPoint}
 use Rattle.std.proofs.lemmas.List.Sorted.{IsPartitionedBy-ltb}
 use Rattle.std.proofs.lemmas.List.{get_or-take, get_or_read, length-take-le, length-append, take_more_set}
@@ -31,7 +31,7 @@ unfolding size
 size_empty zero = refl
 size_empty (suc w) = let h = size_empty w in omega arith
 
-size_more : (w m : ℕ) (p q : ℕ → Bool) → m < w → p m ≡ false → ((n : ℕ) → q n ≡ (eqb m n || p n)) → size w q ≡ size w p + 1
+pub size_more : (w m : ℕ) (p q : ℕ → Bool) → m < w → p m ≡ false → ((n : ℕ) → q n ≡ (eqb m n || p n)) → size w q ≡ size w p + 1
 unfolding size
 size_more zero m p q l h e = absurd (let z : ⊥ = omega arith in z)
 size_more (suc v) m p q l h e = ⊎_elim
@@ -53,6 +53,15 @@ size_ascending least (x ∷ xs) a =
     let rest = size_ascending (x + 1) xs p.2 in
     let more = size_more 64 x (among xs) (among (x ∷ xs)) p.1 (not_among x x xs p.2 (omega arith)) (λ n. refl) in
     omega arith
+
+ascend_take : (least k : ℕ) (xs : List ℕ) → ascend_from least xs ≡ true → ascend_from least (take k xs) ≡ true
+ascend_take least zero xs a = refl
+ascend_take least (suc k) [] a = refl
+ascend_take least (suc k) (x ∷ xs) a = let p = ascend_parts least x xs a in ascend_cons least x (take k xs) p.0 p.1 (ascend_take (x + 1) k xs p.2)
+
+-- the first k of them are k numbers
+pub count_list : (xs : List ℕ) → ascend_from 0 xs ≡ true → (k : ℕ) → k ≤ length xs → size 64 (among (take k xs)) ≡ k
+count_list xs a k h = size_ascending 0 (take k xs) (ascend_take 0 k xs a) ∙ length-take-le k xs h
 
 -- ---- lists with the same members
 
@@ -123,15 +132,19 @@ zeros (suc n) (suc i) = zeros n i
 
 -- ---- one more at the end
 
+pub push_fits : (xs : List ℕ) (n : ℕ) → ascend_from 0 xs ≡ true → n < 64 → ((k : ℕ) → among xs k ≡ true → k < n) → length xs < 64
+push_fits xs n a small above =
+    let all = length_ascending 0 (xs ++ n ∷ []) (ascend_push 0 xs n a (omega arith) small above) (omega arith) in
+    omega (arith, length-append xs (n ∷ []))
+
 module _ (r : ListRecord) (n : ℕ) (h : IsTrue (passes r)) (whole : length r.items ≡ 64) (small : n < 64) (above : (k : ℕ) → members r k ≡ true → k < n) where
   pushed : ascend_from 0 (listed r ++ n ∷ []) ≡ true
   pushed = ascend_push 0 (listed r) n (ascending r h) (omega arith) small (λ k e. above k (members_are r h k ∙ e))
 
   pub push_room : r.len < 64
   push_room =
-      let all = length_ascending 0 (listed r ++ n ∷ []) pushed (omega arith) in
-      let len = length-take-le r.len r.items (omega (arith, len_fits r h)) in
-      omega (arith, length-append (listed r) (n ∷ []))
+      let fits = push_fits (listed r) n (ascending r h) small (λ k e. above k (members_are r h k ∙ e)) in
+      omega (arith, length-take-le r.len r.items (omega (arith, len_fits r h)))
 
   pub push_passes : IsTrue (passes record { len = r.len + 1; items = set r.items r.len n })
   push_passes = and_from _ _ (le-leb _ _ (omega (arith, push_room))) (ap (ascend_from 0) (take_more_set r.items r.len n (omega (arith, push_room))) ∙ pushed)
@@ -184,9 +197,26 @@ next_some r t i x h part l is = (
 
 -- ---- the check
 
--- the check of a list by its neighbours
-pub ascends_by : (xs : List ℕ) (r : Bool) → AllWithin (λ x. x < 64) xs 0 (length xs) → IsAllAdjacentAnswer (λ x y b. b ≡ ltb x y) xs r → r ≡ ascend_from 0 xs
-ascends_by xs true small up = sym (rises_over 0 xs (λ i l. small i 0 (omega arith) l) (λ i l. ltb-true _ _ (ap (ltb _) (ap (λ (k : ℕ). get_or xs k 0) (sym (add-one i))) ∙ sym (up i 0 (omega arith)))) (λ _. omega arith))
+-- numbers that rise are no greater than the last
+below_last : (xs : List ℕ) → ((i : ℕ) → i + 1 < length xs → get_or xs i 0 < get_or xs (i + 1) 0) → (d i : ℕ) → i + d + 1 ≡ length xs → get_or xs i 0 ≤ get_or xs (i + d) 0
+below_last xs up zero i e = rw (add-zero i) (omega arith)
+below_last xs up (suc d) i e =
+    let next = up i (omega arith) in
+    let rest = below_last xs up d (i + 1) (omega arith) in
+    let same : i + 1 + d ≡ i + suc d = omega arith in
+    let there = ap (λ (j : ℕ). get_or xs j 0) same in
+    omega (arith, next, rest, there)
+
+-- the check of a list by its last number, if it has one, and its neighbours
+pub ascends_by : (xs : List ℕ) (r : Bool) → ((last : ℕ) → last + 1 ≡ length xs → get_or xs last 0 < 64) → IsAllAdjacentAnswer (λ x y b. b ≡ ltb x y) xs r → r ≡ ascend_from 0 xs
+ascends_by xs true small up =
+    let rise : (i : ℕ) → i + 1 < length xs → get_or xs i 0 < get_or xs (i + 1) 0 = λ i l. ltb-true _ _ (sym (up i 0 (omega arith))) in
+    sym (rises_over 0 xs
+    (λ i l.
+    let last : (d : ℕ) → i + d + 1 ≡ length xs → get_or xs i 0 < 64 = λ d e. omega (arith, below_last xs rise d i e, small (i + d) e) in
+    last (length xs - (i + 1)) (omega arith))
+    (λ i l. let next = rise i (omega arith) in let there = ap (λ (j : ℕ). get_or xs j 0) (add-one i) in omega (arith, next, there))
+    (λ _. omega arith))
 ascends_by xs false small falls = sym (false_from_ne_true _ (λ e.
     let up = rises 0 xs e falls.0 (falls.0 + 1) 0 (omega arith) falls.1 in
     let not_up = ltb-false _ _ (sym (falls.2 0)) in

@@ -22,7 +22,7 @@ use Rattle.sets.specs.FourWordsLemmas.{row_in, row_out}
 use Rattle.sets.proofs.Counts.{size_none, size_add, size_le, size_of_bits}
 
 -- a member by its word and its bit
-row_at : (ws : List ℕ) (i j : ℕ) → i < 4 → j < 64 → in_row ws (i * 64 + j) ≡ eqb (bit_at (get_or ws i 0) j) 1
+pub row_at : (ws : List ℕ) (i j : ℕ) → i < 4 → j < 64 → in_row ws (i * 64 + j) ≡ eqb (bit_at (get_or ws i 0) j) 1
 row_at ws i j p q = row_in ws (i * 64 + j) (omega arith) ∙ ap₂ (λ (x y : ℕ). eqb (bit_at (get_or ws x 0) y) 1) (div-mul-add i 64 j q) (mod-mul-add i 64 j q)
 
 -- no member in a word of 0
@@ -92,7 +92,7 @@ row_count_fits ws len fits = let is = row_count ws len fits in let most = size_l
 -- ---- the next member
 
 -- the first member in the words from s on, where the words between s and i are 0 and that at i is not
-row_next : (ws : List ℕ) (s i : ℕ) → i < 4 → ((q : ℕ) → s ≤ q → q < i → get_or ws q 0 ≡ 0) → 0 < get_or ws i 0 → get_or ws i 0 < 2 ^ 64
+pub row_next : (ws : List ℕ) (s i : ℕ) → i < 4 → ((q : ℕ) → s ≤ q → q < i → get_or ws q 0 ≡ 0) → 0 < get_or ws i 0 → get_or ws i 0 < 2 ^ 64
     → (in_row ws (i * 64 + trailing_zeros w64 (get_or ws i 0)) ≡ true) × ((n : ℕ) → s * 64 ≤ n → n < i * 64 + trailing_zeros w64 (get_or ws i 0) → in_row ws n ≡ false)
 row_next ws s i l zeros full fits =
     let lowest = bit_at-trailing_zeros w64 (get_or ws i 0) full fits in (

@@ -33,6 +33,7 @@ impl AscendingList {
     pub fn of_record(plain: ListRecord) -> AscendingList
         ensures members { (n : ℕ) → members result.record n ≡ members plain n }
         ensures kept { IsTrue (passes plain) → result.record ≡ plain }
+        ensures emptied { passes plain ≡ false → RestIsZero result.record }
     {
         if plain.passes_check() {
             AscendingList { record: plain }

@@ -35,7 +35,11 @@ impl ListRecord {
 fn ascends(numbers: &[u8]) -> bool
     ensures { result ≡ ascend_from 0 numbers.now }
 {
-    numbers.iter().all(|x| *x < 64) && numbers.is_sorted_by(|a, b| a < b)
+    let [.., last] = numbers else {
+        return true;
+    };
+    // If they ascend, the last is the greatest.
+    *last < 64 && numbers.is_sorted_by(|a, b| a < b)
 }
 
 // Where a method has clauses of its own, they repeat the trait's and add that what is written passes the check and
@@ -68,6 +72,7 @@ impl SmallSet for ListRecord {
         ensures passes { IsTrue (passes self.new) }
         ensures rest { n < 64 → RestIsZero self.new }
         ensures unaltered { 64 ≤ n → IsTrue (passes self.old) → self.new ≡ self.old }
+        ensures emptied { passes self.old ≡ false → RestIsZero self.new }
     {
         let list = AscendingList::of_record(*self);
         let grows = n < Self::W && !list.contains(n);

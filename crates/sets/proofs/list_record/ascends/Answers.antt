@@ -1,16 +1,19 @@
-use Rattle.std.proofs.Common.{◌<◌, ◌≤◌, ltb, ◌∙◌, rules, tests}
-use Rattle.std.proofs.lemmas.Bool.{MatchBool-at_true, MatchBool-at_false}
-use Rattle.std.proofs.lemmas.Iterator.{cases_from_all, YieldsList-from_slice}
+use Rattle.std.proofs.Common.{◌≡◌, ℕ, ◌-◌, ltb, length, get_or, ap, ◌∙◌, rules, tests, arith}
+use Rattle.std.proofs.lemmas.Bool.{le-ltb}
 use Rattle.std.proofs.lemmas.List.Sorted.{answers_always}
 use Rattle.sets.proofs.Lists.{ascends_by, not_small}
 use Rattle.sets.proofs.list_record.ascends.Goals as goal
 
-pub returns-then-all : goal.returns-then-all
-returns-then-all c =
-    let small = cases_from_all _ _ _ (λ x. x < 64) (λ x. 64 ≤ x) c.all.ensures.ran (YieldsList-from_slice c.args.numbers.now cc) (λ x q k. search (rules, tests)) (λ x q k. search (rules, tests)) in
-    ascends_by c.args.numbers.now _ (MatchBool-at_true _ _ c.if-all.true small) (c.is_sorted_by.ensures.cases ltb (answers_always _ _ _ (λ f a r q k. search (rules, tests))))
+pub returns-then-last-lt64 : goal.returns-then-last-lt64
+returns-then-last-lt64 c =
+    let numbers = c.args.numbers.now in
+    ascends_by numbers _
+    (λ last end.
+    let at : last ≡ length numbers - 1 = omega arith in
+    omega (arith, ap (λ (i : ℕ). get_or numbers i 0) at, c.if-last-lt64.true))
+    (c.is_sorted_by.ensures.cases ltb (answers_always _ _ _ (λ f a r q k. search (rules, tests))))
 
-pub returns-else-all : goal.returns-else-all
-returns-else-all c =
-    let large = MatchBool-at_false _ _ c.if-all.false (cases_from_all _ _ _ (λ x. x < 64) (λ x. 64 ≤ x) c.all.ensures.ran (YieldsList-from_slice c.args.numbers.now cc) (λ x q k. search (rules, tests)) (λ x q k. search (rules, tests))) in
-    c.if-all.false ∙ not_small c.args.numbers.now large.0 large.1 (large.2 0)
+pub returns-else-last-lt64 : goal.returns-else-last-lt64
+returns-else-last-lt64 c =
+    let numbers = c.args.numbers.now in
+    le-ltb _ _ c.if-last-lt64.false ∙ not_small numbers (length numbers - 1) (omega (arith, c.in-len1-up.len_at_least)) c.if-last-lt64.false

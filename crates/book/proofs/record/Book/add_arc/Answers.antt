@@ -1,4 +1,5 @@
-use Rattle.std.proofs.Common.{rules, sym, ◌∙◌}
+use Rattle.std.proofs.Common.{None, rules, sym, ◌∙◌}
+use Rattle.book.proofs.SlotWrites.{place_at}
 use Rattle.book.proofs.ArcChanges.{arc_full, arc_added, arc_consistent}
 use Rattle.book.proofs.record.Book.add_arc.Goals as goal
 
@@ -11,10 +12,10 @@ returns-in_err-place c =
 pub invariant_of-self : goal.invariant_of-self
 invariant_of-self c = record {
   consistent = arc_consistent c.args.bound.stages c.args.self.now c.args.arc c.in_ok-check_ends.ensures (sym c.if-has_arc.ensures) c.in_ok-place.place
-      (sym c.place_of.ensures ∙ c.in_ok-place.ensures.ok_part);
+      (place_at None c.args.self.now.arcs c.in_ok-place.place (sym c.place_of.ensures ∙ c.in_ok-place.ensures.ok_part));
 }
 
 pub returns : goal.returns
 returns c =
     arc_added c.args.bound.stages c.args.self.now c.args.arc c.in_ok-check_ends.ensures (sym c.if-has_arc.ensures) c.in_ok-place.place
-    (sym c.place_of.ensures ∙ c.in_ok-place.ensures.ok_part)
+    (place_at None c.args.self.now.arcs c.in_ok-place.place (sym c.place_of.ensures ∙ c.in_ok-place.ensures.ok_part))
