@@ -84,6 +84,7 @@ fn all_steps(distance: &[u16; 256]) -> [Option<u16>; 256]
     ensures { (v : ℕ) → v < 256 → MatchOption (slice_index_or result v None) (slice_index distance.now v ≡ 65535) (λ d. (d < 65535) × (d ≡ slice_index distance.now v)) }
 {
     let mut all = [None; 256];
+    // A loop, since `map` of the array takes twice the time here, and more stack.
     for (stage, distance) in distance.iter().enumerate() {
         all[stage] = steps(*distance);
     }

@@ -43,8 +43,8 @@ fn ascends(numbers: &[u8]) -> bool
 }
 
 // Where a method has clauses of its own, they repeat the trait's and add that what is written passes the check and
-// holds 0 in the items that are not used. A number that is too great alters nothing, unless the record fails the check.
-// A plain record cannot hold these facts: any numbers may stand in memory.
+// holds 0 in the items that are not used. A number that is too great alters nothing in a record that passes the check,
+// and empties one that fails it. A plain record cannot hold these facts: any numbers may stand in memory.
 impl SmallSet for ListRecord {
     const W: u16 = 64;
 
